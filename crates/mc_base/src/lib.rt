@@ -1,0 +1,21 @@
+//! The words that every crate of molconv speaks: numbers of atoms and bonds, spans of a text,
+//! lists that are handed out, and the kinds of refusal with their order.
+#![tactic(auto)]
+
+mod atom_list;
+mod errors;
+mod ids;
+mod kind;
+mod refusal;
+mod span;
+mod text;
+mod verdict;
+
+pub use atom_list::AtomList;
+pub use errors::{Failed, NoMemory};
+pub use ids::{AtomId, BondId};
+pub use kind::Kind;
+pub use refusal::{Refusal, Stop};
+pub use span::Span;
+pub use text::Text;
+pub use verdict::Verdict;

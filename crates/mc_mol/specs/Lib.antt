@@ -1,0 +1,2 @@
+pub mod Molecule
+pub mod Same

@@ -1,0 +1,46 @@
+use mc_base::{AtomId, BondId};
+use mc_elements::Element;
+
+/// An atom. Isotope 0 is none, and so is class 0; the charge is in elementary charges.
+#[derive(Clone, Copy, Debug, PartialEq, Eq)]
+pub struct Atom {
+    pub element: Element,
+    pub isotope: u16,
+    pub charge: i8,
+    pub hydrogens: u8,
+    pub class: u16,
+}
+
+/// A bond between two different atoms, of order 1 to 4.
+#[derive(Clone, Copy, Debug, PartialEq, Eq)]
+pub struct Bond {
+    pub first: AtomId,
+    pub second: AtomId,
+    pub order: u8,
+}
+
+/// A bond as one of its atoms sees it: the bond, the other atom, and the place of the same bond in
+/// the list of the other atom.
+#[derive(Clone, Copy, Debug, PartialEq, Eq)]
+pub struct HalfEdge {
+    pub bond: BondId,
+    pub to: AtomId,
+    pub twin: u32,
+}
+
+/// A place round a stereocentre: a neighbour, or the rest, which is the hydrogen or the further place
+/// of an atom with three neighbours.
+#[derive(Clone, Copy, Debug, PartialEq, Eq)]
+pub enum Slot {
+    At(AtomId),
+    Rest,
+}
+
+/// The geometry of a double bond: a neighbour of its first end, a neighbour of its second, and
+/// whether the two stand together on one side.
+#[derive(Clone, Copy, Debug, PartialEq, Eq)]
+pub struct Sides {
+    pub first: AtomId,
+    pub second: AtomId,
+    pub together: bool,
+}
