@@ -1,0 +1,5 @@
+pub mod Prefixes
+pub mod OpenLaw
+pub mod ReadingSteps
+pub mod Places
+pub mod Refusals
