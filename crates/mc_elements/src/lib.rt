@@ -2,5 +2,7 @@
 #![tactic(auto)]
 
 mod element;
+mod valence;
 
 pub use element::Element;
+pub use valence::{aromatic_valences, ct_valences, implied, reference_mass, smiles_valences};

@@ -1,6 +1,11 @@
 //! Molecules: a graph of atoms and bonds with two kinds of stereo, both said by the order of neighbours.
 #![tactic(auto)]
 
+mod adjacency;
+mod mol;
 mod parts;
+mod permutation;
 
+pub use mol::{AddAtom, AddBond, Mol};
 pub use parts::{Atom, Bond, HalfEdge, Sides, Slot};
+pub use permutation::parity;

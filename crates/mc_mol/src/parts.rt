@@ -28,6 +28,16 @@ pub struct HalfEdge {
     pub twin: u32,
 }
 
+impl Default for HalfEdge {
+    fn default() -> HalfEdge {
+        HalfEdge {
+            bond: BondId(0),
+            to: AtomId(0),
+            twin: 0,
+        }
+    }
+}
+
 /// A place round a stereocentre: a neighbour, or the rest, which is the hydrogen or the further place
 /// of an atom with three neighbours.
 #[derive(Clone, Copy, Debug, PartialEq, Eq)]

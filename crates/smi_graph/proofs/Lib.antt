@@ -3,3 +3,4 @@ pub mod OpenLaw
 pub mod ReadingSteps
 pub mod Places
 pub mod Refusals
+pub mod Rising

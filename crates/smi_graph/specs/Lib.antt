@@ -4,3 +4,4 @@ pub mod Bonds
 pub mod Reading
 pub mod Rules
 pub mod Stops
+pub mod Later

@@ -1,6 +1,7 @@
 ghost use Rattle.std.specs.Prelude.{◌≡◌, ◌≤◌, ◌<◌, ◌^◌, ◌-◌, IfOk, IfErr, length};
 ghost use Rattle.smi_lex.specs.Tokens.{tokens};
 ghost use Rattle.smi_graph.specs.Rules.{IsSkeleton, byte_place};
+ghost use Rattle.smi_graph.specs.Later.{JoinLater};
 ghost use Rattle.smi_graph.specs.Stops.{IsBroken};
 
 use crate::Skeleton;
@@ -30,6 +31,7 @@ pub fn read_skeleton(alloc: Global, text: &[u8]) -> Result<Skeleton, Stop>
     ensures ok { IfOk result (IsSkeleton text.now) }
     ensures few_atoms { IfOk result (λ skeleton. length skeleton.elements.items ≤ 999) }
     ensures few_bonds { IfOk result (λ skeleton. length skeleton.bonds.items ≤ 999) }
+    ensures later { IfOk result (λ skeleton. JoinLater skeleton.bonds.items (length skeleton.elements.items)) }
     ensures err { IfErr result (IsBroken text.now) }
 {
     if !is_built(text) {

@@ -1,0 +1,4 @@
+pub mod NoneAbove
+pub mod Building
+pub mod Refusals
+mod Rows

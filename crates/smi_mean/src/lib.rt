@@ -1,13 +1,11 @@
-// A library with one function.
+//! What a SMILES text stands for: hydrogens, and the molecule of a skeleton.
 #![tactic(auto)]
 
-ghost use Rattle.std.specs.Prelude.{◌≡◌};
-ghost use Rattle.smi_mean.specs.Echo.{echo_of};
+mod hydrogens;
+mod molecule;
+mod read;
+mod step;
 
-// The `ensures` clause is the contract: what `echo` returns is `echo_of` of its argument, a definition
-// in `specs/Echo.antt`, which a caller's clause can cite too.
-pub fn echo(x: usize) -> usize
-    ensures { result ≡ echo_of x }
-{
-    x
-}
+pub use read::{SmilesRead, read_smiles};
+pub use step::Step;
+

@@ -1,0 +1,21 @@
+use Rattle.std.proofs.Common.{◌≡◌, length, ◌+◌, ◌-◌, ◌≤◌}
+use Rattle.std.specs.Io.KnownBytes.{Consumes}
+use Rattle.mc_io.specs.Outside.{SameBut}
+use Rattle.mc_io.proofs.whole.read_all.Given as goal
+
+abbrev pub invariant-loop-bytes : goal.invariant-loop-bytes
+invariant-loop-bytes g l = record {
+  within : l.count ≤ g.S.Source.LIMIT;
+  count : length l.bytes.items ≡ l.count;
+  buffer : length l.buffer ≡ 4096;
+  taken : g.S.Source.taken l.source l.input ≡ g.S.Source.taken l.initial.source l.input + l.count;
+  left : Consumes (g.S.Source.left l.initial.source l.input) (g.S.Source.left l.source l.input) l.bytes.items;
+  later : g.S.Source.faults l.initial.source l.input ≤ g.S.Source.faults l.source l.input;
+  left_others : SameBut l.input (g.S.Source.left l.initial.source) (g.S.Source.left l.source);
+  faults_others : SameBut l.input (g.S.Source.faults l.initial.source) (g.S.Source.faults l.source);
+  taken_others : SameBut l.input (g.S.Source.taken l.initial.source) (g.S.Source.taken l.source);
+  ended_others : SameBut l.input (g.S.Source.ended l.initial.source) (g.S.Source.ended l.source);
+}
+
+abbrev pub decreases-loop-bytes : goal.decreases-loop-bytes
+decreases-loop-bytes g l = g.S.Source.LIMIT - l.count
