@@ -1,8 +1,8 @@
 -- Every kind has its place in the list of all kinds.
-use Rattle.std.proofs.Common.{arith, ◌≡◌, ◌<◌, ℕ, List, [], ◌∷◌, get_or}
+use Rattle.std.proofs.Common.{arith, ◌≡◌, ◌∙◌, ◌<◌, ℕ, List, [], ◌∷◌, get_or, refl, ap, sym}
 use Rattle.mc_base.specs.declared.kind.Kind.{Kind}
 use Rattle.mc_base.specs.declared.kind.Kind.TheVariants.{NotBuilt, LineTooLong, RecordTooLong, BadToken, Wildcard, OtherChirality, ShortRecord, ReactionFile, Version, BadField, Query, BondType, Radical, Reaction, Sgroup, Alias, Stext, EnhancedStereo, MassDifference, ThreeD, BadOrder, ParenOpen, RingOpen, RingClash, RingPair, AromaticBond, AtomNumber, BondPair, LimitAtoms, LimitBonds, LimitRings, LimitIsotope, LimitClass, LimitCharge, LimitCoordinate, LimitHydrogens, ValenceShort, LimitValence, HydrogenOnHydrogen, NoPlacement, NotACentre, DirectionConflict, AmbiguousCentre, Quadruple, RingSides, Crowded, Name}
-use Rattle.mc_base.specs.Kinds.{kind_name}
+use Rattle.mc_base.specs.Kinds.{number, kind_name}
 
 abbrev pub all_kinds : List Kind
 all_kinds = NotBuilt ∷ LineTooLong ∷ RecordTooLong ∷ BadToken ∷ Wildcard ∷ OtherChirality ∷ ShortRecord ∷ ReactionFile ∷ Version ∷ BadField ∷ Query ∷ BondType ∷ Radical ∷ Reaction ∷ Sgroup ∷ Alias ∷ Stext ∷ EnhancedStereo ∷ MassDifference ∷ ThreeD ∷ BadOrder ∷ ParenOpen ∷ RingOpen ∷ RingClash ∷ RingPair ∷ AromaticBond ∷ AtomNumber ∷ BondPair ∷ LimitAtoms ∷ LimitBonds ∷ LimitRings ∷ LimitIsotope ∷ LimitClass ∷ LimitCharge ∷ LimitCoordinate ∷ LimitHydrogens ∷ ValenceShort ∷ LimitValence ∷ HydrogenOnHydrogen ∷ NoPlacement ∷ NotACentre ∷ DirectionConflict ∷ AmbiguousCentre ∷ Quadruple ∷ RingSides ∷ Crowded ∷ Name ∷ []
@@ -57,3 +57,56 @@ unnamed name others Quadruple is = others 43 (omega arith) is
 unnamed name others RingSides is = others 44 (omega arith) is
 unnamed name others Crowded is = others 45 (omega arith) is
 unnamed name others Name is = others 46 (omega arith) is
+
+kind_at : (kind : Kind) → get_or all_kinds (number kind) NotBuilt ≡ kind
+kind_at NotBuilt = refl
+kind_at LineTooLong = refl
+kind_at RecordTooLong = refl
+kind_at BadToken = refl
+kind_at Wildcard = refl
+kind_at OtherChirality = refl
+kind_at ShortRecord = refl
+kind_at ReactionFile = refl
+kind_at Version = refl
+kind_at BadField = refl
+kind_at Query = refl
+kind_at BondType = refl
+kind_at Radical = refl
+kind_at Reaction = refl
+kind_at Sgroup = refl
+kind_at Alias = refl
+kind_at Stext = refl
+kind_at EnhancedStereo = refl
+kind_at MassDifference = refl
+kind_at ThreeD = refl
+kind_at BadOrder = refl
+kind_at ParenOpen = refl
+kind_at RingOpen = refl
+kind_at RingClash = refl
+kind_at RingPair = refl
+kind_at AromaticBond = refl
+kind_at AtomNumber = refl
+kind_at BondPair = refl
+kind_at LimitAtoms = refl
+kind_at LimitBonds = refl
+kind_at LimitRings = refl
+kind_at LimitIsotope = refl
+kind_at LimitClass = refl
+kind_at LimitCharge = refl
+kind_at LimitCoordinate = refl
+kind_at LimitHydrogens = refl
+kind_at ValenceShort = refl
+kind_at LimitValence = refl
+kind_at HydrogenOnHydrogen = refl
+kind_at NoPlacement = refl
+kind_at NotACentre = refl
+kind_at DirectionConflict = refl
+kind_at AmbiguousCentre = refl
+kind_at Quadruple = refl
+kind_at RingSides = refl
+kind_at Crowded = refl
+kind_at Name = refl
+
+-- two kinds of one number are one kind
+pub same_number : (a b : Kind) → number a ≡ number b → a ≡ b
+same_number a b same = sym (kind_at a) ∙ ap (λ (n : ℕ). get_or all_kinds n NotBuilt) same ∙ kind_at b

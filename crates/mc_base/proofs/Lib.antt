@@ -1,1 +1,1 @@
-mod AllKinds
+pub mod AllKinds

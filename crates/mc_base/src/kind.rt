@@ -229,3 +229,9 @@ const ALL: [Kind; 47] = [
     Kind::Crowded,
     Kind::Name,
 ];
+
+/// The order of kinds has no two at one place.
+#[tactic(auto, using(crate::proofs::AllKinds::same_number))]
+pub fn order_law()
+    ensures { (a b : Kind) → number a ≡ number b → a ≡ b }
+{}

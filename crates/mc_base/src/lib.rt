@@ -10,12 +10,14 @@ mod refusal;
 mod span;
 mod text;
 mod verdict;
+mod written;
 
 pub use atom_list::AtomList;
 pub use errors::{Failed, NoMemory};
 pub use ids::{AtomId, BondId};
-pub use kind::Kind;
+pub use kind::{Kind, order_law};
 pub use refusal::{Refusal, Stop};
 pub use span::Span;
 pub use text::Text;
 pub use verdict::Verdict;
+pub use written::Written;

@@ -1,0 +1,5 @@
+pub mod Records
+pub mod Answers
+pub mod Runs
+pub mod Statuses
+pub mod Accepted

@@ -1,13 +1,11 @@
-// A library with one function.
+//! The converter: records in, written records and report lines out.
 #![tactic(auto)]
 
-ghost use Rattle.std.specs.Prelude.{◌≡◌};
-ghost use Rattle.mc_convert.specs.Echo.{echo_of};
+mod answer;
+mod run;
+mod status;
+pub mod words;
 
-// The `ensures` clause is the contract: what `echo` returns is `echo_of` of its argument, a definition
-// in `specs/Echo.antt`, which a caller's clause can cite too.
-pub fn echo(x: usize) -> usize
-    ensures { result ≡ echo_of x }
-{
-    x
-}
+pub use answer::{Answer, answer_record};
+pub use status::Status;
+

@@ -1,13 +1,6 @@
-// A library with one function.
+//! Report lines: one for each record, with a map or the reason of a refusal.
 #![tactic(auto)]
 
-ghost use Rattle.std.specs.Prelude.{◌≡◌};
-ghost use Rattle.mc_report.specs.Echo.{echo_of};
+mod put;
 
-// The `ensures` clause is the contract: what `echo` returns is `echo_of` of its argument, a definition
-// in `specs/Echo.antt`, which a caller's clause can cite too.
-pub fn echo(x: usize) -> usize
-    ensures { result ≡ echo_of x }
-{
-    x
-}
+pub use put::{put_ok, put_refused};

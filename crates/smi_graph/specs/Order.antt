@@ -112,7 +112,7 @@ closes_nothing before (Some k) = is_none (depth (k ∷ before))
 
 -- the next token, or the end, may not stand there
 abbrev pub is_misplaced : List Role → Option Role → Bool
-is_misplaced before next = not (may_follow (latest before) next) || closes_nothing before next || is_ring next && is_stray_bond before
+is_misplaced before next = (not (may_follow (latest before) next) || closes_nothing before next) || (is_ring next && is_stray_bond before)
 
 -- the tokens before place i, the latest first
 abbrev pub tokens_before : List Role → ℕ → List Role

@@ -24,5 +24,5 @@ last_child_is_no_branch = refl
 nested_branches : written_text (meaning (codes "C(C(N)(C)O)(N(C))C")) ≡ codes "C(C(N)(C)O)(NC)C"
 nested_branches = refl
 
-order_of_branches : written_order (meaning (codes "C(C)(N)")) ≡ 0 ∷ 1 ∷ 2 ∷ []
+order_of_branches : written_order (meaning (codes "C(C)(N)")) ≡ record { 0 = 0 } ∷ record { 0 = 1 } ∷ record { 0 = 2 } ∷ []
 order_of_branches = refl

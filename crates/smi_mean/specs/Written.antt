@@ -1,6 +1,7 @@
 -- The one text in which a molecule is written (this project's own).
 use Rattle.std.specs.List.{list_any}
 use Rattle.std.specs.Prelude.{ℕ, zero, suc, Bool, true, false, not, ◌&&◌, List, [], ◌∷◌, ◌++◌, Option, Some, None, ◌==◌, slice_get, length, reverse, map, flat_map, option_map, option_to_list}
+use Rattle.mc_base.specs.declared.ids.AtomId.{AtomId}
 use Rattle.mc_elements.specs.declared.element.Element.{Element}
 use Rattle.mc_elements.specs.declared.element.Element.TheVariants.{C}
 use Rattle.mc_elements.specs.Elements.{symbol}
@@ -113,5 +114,5 @@ spelling _ = []
 abbrev pub written_text : Molecule → List ℕ
 written_text m = flat_map spelling (tokens_of m None (order m))
 
-abbrev pub written_order : Molecule → List ℕ
-written_order m = map (λ s. s.atom) (order m)
+abbrev pub written_order : Molecule → List AtomId
+written_order m = map (λ s. record { 0 = s.atom }) (order m)

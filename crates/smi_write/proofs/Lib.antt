@@ -1,0 +1,13 @@
+pub mod Least
+pub mod Range
+pub mod Joined
+pub mod Pieces
+pub mod Shape
+pub mod Plain
+pub mod Writing
+pub mod Tree
+pub mod TreeOrder
+pub mod Spelling
+pub mod Counts
+pub mod BuiltTexts
+pub mod RoundTrip

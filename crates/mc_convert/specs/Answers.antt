@@ -1,0 +1,90 @@
+-- What a record is answered, and what a run writes (this project's own).
+use Rattle.std.specs.Prelude.{◌≡◌, ℕ, ◌+◌, ◌<◌, ◌⊎◌, List, [], ◌∷◌, ◌++◌, take, flat_map, length}
+use Rattle.mc_base.specs.declared.refusal.Refusal.{Refusal}
+use Rattle.mc_base.specs.Shown.{IsFirst}
+use Rattle.mc_mol.specs.Molecule.{Molecule}
+use Rattle.mc_mol.specs.Same.{Same}
+use Rattle.mc_report.specs.Report.{ok_line, refused_line}
+use Rattle.smi_graph.specs.Stops.{IsNoBarrier}
+use Rattle.smi_mean.specs.Rules.{StandsAt, SmilesStands}
+use Rattle.smi_mean.specs.Written.{written_text, written_order}
+use Rattle.mc_convert.specs.Records.{records, line}
+
+-- what is written for a record: at output 0, and at output 1
+pub record Reply : Type 0 where
+  pub out : List ℕ
+  pub report : List ℕ
+
+-- Record k is written: in the one form of a molecule that it stands for. What is written is one record and stands for
+-- exactly one molecule, which is the same under the map that the report line has.
+pub record IsWritten (k : ℕ) (text : List ℕ) (reply : Reply) : Type 0 where
+  pub input : Molecule
+  pub output : Molecule
+  pub stands : SmilesStands text input
+  pub form : reply.out ≡ line (written_text input)
+  pub one_record : records reply.out ≡ written_text input ∷ []
+  pub reads : SmilesStands (written_text input) output
+  pub only : (other : Molecule) → SmilesStands (written_text input) other → other ≡ output
+  pub same : Same input output (written_order input)
+  pub report : reply.report ≡ ok_line k (written_order input) 0 0 0
+
+-- a text shows a refusal
+abbrev pub Shows : List ℕ → Refusal → Type 0
+Shows text refusal = IsFirst (StandsAt text) IsNoBarrier refusal
+
+-- Record k is refused, for a cause that it shows.
+pub record IsRefusedFor (k : ℕ) (text : List ℕ) (reply : Reply) : Type 0 where
+  pub refusal : Refusal
+  pub shows : Shows text refusal
+  pub out : reply.out ≡ []
+  pub report : reply.report ≡ refused_line k refusal
+
+abbrev pub IsAnswer : ℕ → List ℕ → Reply → Type 0
+IsAnswer k text reply = IsWritten k text reply ⊎ IsRefusedFor k text reply
+
+-- the answers to the records from number k on, in order, one for each
+abbrev pub Answers : ℕ → List (List ℕ) → List Reply → Type 0
+Answers k [] [] = Unit {0}
+Answers k [] (reply ∷ replies) = ⊥
+Answers k (text ∷ texts) [] = ⊥
+Answers k (text ∷ texts) (reply ∷ replies) = IsAnswer k text reply × Answers (k + 1) texts replies
+
+abbrev pub outs : List Reply → List ℕ
+outs replies = flat_map (λ reply. reply.out) replies
+
+abbrev pub reports : List Reply → List ℕ
+reports replies = flat_map (λ reply. reply.report) replies
+
+-- The outputs have grown by all of the answers.
+pub record Whole (texts : List (List ℕ)) (grown0 grown1 : List ℕ) : Type 0 where
+  pub replies : List Reply
+  pub answers : Answers 1 texts replies
+  pub out : grown0 ≡ outs replies
+  pub report : grown1 ≡ reports replies
+
+abbrev pub IsPrefix : List ℕ → List ℕ → Type 0
+IsPrefix part whole = (rest : List ℕ) × (whole ≡ part ++ rest)
+
+-- a part of a reply: of its record, or of its report line behind the whole record
+abbrev pub IsPartOf : Reply → List ℕ → List ℕ → Type 0
+IsPartOf reply part0 part1 = (IsPrefix part0 reply.out × (part1 ≡ [])) ⊎ ((part0 ≡ reply.out) × IsPrefix part1 reply.report)
+
+-- The outputs have grown by the answers to the first records, and by a part of the answer to the last of these.
+pub record StoppedIn (texts : List (List ℕ)) (grown0 grown1 : List ℕ) : Type 0 where
+  pub before : List Reply
+  pub last : Reply
+  pub part0 : List ℕ
+  pub part1 : List ℕ
+  pub answers : Answers 1 (take (length before + 1) texts) (before ++ last ∷ [])
+  pub part : IsPartOf last part0 part1
+  pub out : grown0 ≡ outs before ++ part0
+  pub report : grown1 ≡ reports before ++ part1
+
+-- with no answer they haven't grown
+abbrev pub Stopped : List (List ℕ) → List ℕ → List ℕ → Type 0
+Stopped texts grown0 grown1 = ((grown0 ≡ []) × (grown1 ≡ [])) ⊎ StoppedIn texts grown0 grown1
+
+-- The outputs have grown by less than all of the answers.
+abbrev pub IsLessThanWhole : List (List ℕ) → List ℕ → List ℕ → Type 0
+IsLessThanWhole texts grown0 grown1 =
+    (replies : List Reply) → Answers 1 texts replies → length grown0 + length grown1 < length (outs replies) + length (reports replies)
