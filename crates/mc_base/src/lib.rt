@@ -21,3 +21,6 @@ pub use span::Span;
 pub use text::Text;
 pub use verdict::Verdict;
 pub use written::Written;
+
+#[cfg(test)]
+mod tests;

@@ -57,7 +57,6 @@ all_of_both text reply a0 c0 d0 a1 b1 d1 answer whole kept same lines = record {
   holds = record { replies = reply ∷ []; answers = (answer, tt); out = sym (append-nil reply.out); report = sym (append-nil reply.report) };
 }
 
-
 -- Where a part of a record is held, less than the whole answer is.
 pub less_by_out : (text : List ℕ) (reply : Reply) (a0 b0 a1 b1 : Option (List ℕ)) → IsAnswer 1 text reply → AppendsPart a0 b0 reply.out → b1 ≡ a1 → Grown a0 b0 a1 b1 (IsLessThanWhole (text ∷ []))
 less_by_out text reply a0 b0 a1 b1 answer (n, within, part) same = record {
@@ -152,7 +151,7 @@ not_all_held text input old0 new0 old1 new1 same less all =
     let is : text ≡ all.bytes = subst (λ (o : Option (List ℕ)). IfSome o (λ x. text ≡ x)) all.input_is same in
     let w = all.whole in
     let bound : length less.more0 + length less.more1 < length (outs w.replies) + length (reports w.replies) =
-        less.holds w.replies (subst (λ (x : List ℕ). Answers 1 (records x) w.replies) (sym is) w.answers) in
+    less.holds w.replies (subst (λ (x : List ℕ). Answers 1 (records x) w.replies) (sym is) w.answers) in
     let a = same_growth old0 new0 all.before0 all.grown0 less.more0 all.old0_is all.new0_is less.out in
     let b = same_growth old1 new1 all.before1 all.grown1 less.more1 all.old1_is all.new1_is less.report in
     let c = ap (λ (x : List ℕ). length x) w.out in

@@ -8,4 +8,3 @@ pub mod words;
 
 pub use answer::{Answer, answer_record};
 pub use status::Status;
-

@@ -403,3 +403,22 @@ const ALL: [Element; 118] = [
     Element::Ts,
     Element::Og,
 ];
+
+#[cfg(test)]
+mod tests {
+    use super::*;
+
+    #[test]
+    fn symbols(rt: HostRuntime) {
+        assert_eq!(rt; Element::of_symbol(b"H"), Some(Element::H));
+        assert_eq!(rt; Element::of_symbol(b"Cl"), Some(Element::Cl));
+        assert_eq!(rt; Element::of_symbol(b"Og"), Some(Element::Og));
+        assert_eq!(rt; Element::of_symbol(b"D"), None);
+        assert_eq!(rt; Element::of_symbol(b"cl"), None);
+        assert_eq!(rt; Element::of_symbol(b"CL"), None);
+        assert_eq!(rt; Element::of_symbol(b""), None);
+        assert_eq!(rt; Element::Og.number(), 118);
+        assert_eq!(rt; Element::Fe.number(), 26);
+        assert_eq!(rt; Element::Sc.symbol(), b"Sc".as_slice());
+    }
+}

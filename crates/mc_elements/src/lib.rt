@@ -4,5 +4,5 @@
 mod element;
 mod valence;
 
-pub use element::Element;
+pub use element::{Element, symbols_law};
 pub use valence::{aromatic_valences, ct_valences, implied, reference_mass, smiles_valences};

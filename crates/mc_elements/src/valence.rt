@@ -89,3 +89,21 @@ pub fn reference_mass(element: Element) -> Option<u8>
         _ => None,
     }
 }
+
+#[cfg(test)]
+mod tests {
+    use super::*;
+
+    #[test]
+    fn hydrogens(rt: HostRuntime) {
+        assert_eq!(rt; implied(smiles_valences(Element::C), 1), 3);
+        assert_eq!(rt; implied(smiles_valences(Element::N), 4), 1);
+        assert_eq!(rt; implied(smiles_valences(Element::S), 7), 0);
+        assert_eq!(rt; implied(smiles_valences(Element::Fe), 2), 0);
+        assert_eq!(rt; implied(aromatic_valences(Element::N, 1), 3), 1);
+        assert_eq!(rt; implied(ct_valences(Element::Si, 0), 1), 3);
+        assert_eq!(rt; ct_valences(Element::Cl, -1), b"".as_slice());
+        assert_eq!(rt; reference_mass(Element::I), Some(127));
+        assert_eq!(rt; reference_mass(Element::Cl), None);
+    }
+}

@@ -1,5 +1,5 @@
 -- What is left of an input after a read.
-use Rattle.std.proofs.Common.{arith, ◌≡◌, ℕ, ◌+◌, ◌<◌, ◌≤◌, List, ◌++◌, length, take, drop, set, ap, sym, ◌∙◌}
+use Rattle.std.proofs.Common.{◌≡◌, ℕ, ◌+◌, ◌<◌, List, ◌++◌, length, take, drop, set, ap, sym, ◌∙◌}
 use Rattle.std.proofs.lemmas.List.{take-append-drop, drop-drop, get_or-set_same}
 use Rattle.mc_io.specs.declared.taking.Taking.{Taking}
 use Rattle.mc_io.specs.Inputs.{taking_at, untaken}

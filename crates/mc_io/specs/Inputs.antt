@@ -1,5 +1,5 @@
 -- Inputs in memory.
-use Rattle.std.specs.Prelude.{ℕ, Bool, false, List, [], Option, Some, None, drop, Vec, get_or, slice_get}
+use Rattle.std.specs.Prelude.{ℕ, false, List, [], Option, Some, None, drop, Vec, get_or, slice_get}
 use Rattle.std.specs.declared.alloc.Global.{Global}
 use Rattle.mc_io.specs.declared.taking.Taking.{Taking}
 

@@ -2,7 +2,7 @@ use crate::Sink;
 use mc_base::Failed;
 
 /// A sink that takes every piece whole and keeps none of it.
-#[derive(Clone, Copy, Debug, PartialEq, Eq)]
+#[derive(Clone, Copy, Debug, Default)]
 pub struct SafeSink;
 
 impl SafeSink {

@@ -1,5 +1,5 @@
 /// How far an input has been taken.
-#[derive(Clone, Copy, Debug, PartialEq, Eq)]
+#[derive(Clone, Copy)]
 pub struct Taking {
     /// where the next read begins
     pub at: usize,

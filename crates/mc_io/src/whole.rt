@@ -14,7 +14,7 @@ pub enum ReadStop {
     NoMemory,
 }
 
-const BUFFER_SIZE: usize = 4096;
+const BUFFER_SIZE: usize = 65536;
 
 /// All that is left of an input.
 pub fn read_all<S: Source>(alloc: Global, source: &mut S, input: u32) -> Result<Vec<u8>, ReadStop>

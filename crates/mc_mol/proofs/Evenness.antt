@@ -1,5 +1,5 @@
 -- The inversions of a permutation of four places, as they are counted.
-use Rattle.std.proofs.Common.{◌≡◌, ℕ, List, [], ◌∷◌, map, get_or, length, ap, ◌∙◌, sym}
+use Rattle.std.proofs.Common.{◌≡◌, ℕ, List, [], ◌∷◌, map, get_or, length, ap, sym}
 use Rattle.mc_mol.specs.declared.parts.Slot.{Slot}
 use Rattle.mc_mol.specs.Permutations.{inversions, place_in}
 use Rattle.mc_mol.proofs.Lists.{four_of}

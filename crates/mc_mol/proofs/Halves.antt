@@ -1,5 +1,5 @@
 -- The half-edges of an atom: how many there are, what one more bond adds, and that they find the joined pairs.
-use Rattle.std.proofs.Common.{◌≡◌, ◌≢◌, ℕ, ◌+◌, ◌<◌, ◌≤◌, Bool, true, false, ◌&&◌, ◌||◌, ◌==◌, List, [], ◌∷◌, ◌++◌, length, reverse, if◌then◌else◌, subst, sym, ap, ◌∙◌, arith, refl}
+use Rattle.std.proofs.Common.{◌≡◌, ◌≢◌, ℕ, ◌+◌, ◌≤◌, Bool, true, false, ◌&&◌, ◌||◌, ◌==◌, List, [], ◌∷◌, length, reverse, if◌then◌else◌, ap, ◌∙◌, arith, refl}
 use Rattle.std.specs.List.{All, list_any}
 use Rattle.std.proofs.lemmas.Bool.Decides.{nat_tests}
 use Rattle.std.proofs.lemmas.List.{length-append, reverse-append}
@@ -7,7 +7,7 @@ use Rattle.std.proofs.lemmas.List.Folds.{list_any-append}
 use Rattle.mc_mol.specs.declared.parts.Bond.{Bond}
 use Rattle.mc_mol.specs.declared.parts.HalfEdge.{HalfEdge}
 use Rattle.mc_mol.specs.Molecule.{Molecule, joins, touches, are_joined}
-use Rattle.mc_mol.specs.HalfEdges.{half_edge, half_edges, half_edges_by, degree, other_end}
+use Rattle.mc_mol.specs.HalfEdges.{half_edge, half_edges, half_edges_by, degree}
 use Rattle.mc_mol.specs.WellFormed.{IsBond}
 use Rattle.mc_mol.proofs.Lists.{All-head, All-tail}
 

@@ -1,7 +1,6 @@
 -- A molecule with one more centre, and with the sides of one more bond.
-use Rattle.std.proofs.Common.{◌≡◌, ◌∙◌, ℕ, ◌<◌, List, Option, Some, length, slice_get, slice_set, subst, sym, ap, inl, inr}
+use Rattle.std.proofs.Common.{◌≡◌, ◌∙◌, ℕ, List, Some, slice_get, slice_set, subst, sym, ap, inl, inr}
 use Rattle.smallvec.specs.SmallVec.{SmallVec}
-use Rattle.mc_mol.specs.declared.parts.Bond.{Bond}
 use Rattle.mc_mol.specs.declared.parts.HalfEdge.{HalfEdge}
 use Rattle.mc_mol.specs.declared.parts.Sides.{Sides}
 use Rattle.mc_mol.specs.declared.parts.Slot.{Slot}

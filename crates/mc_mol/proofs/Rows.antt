@@ -1,11 +1,11 @@
 -- Worked examples of the definitions.
-use Rattle.std.proofs.Common.{◌≡◌, ℕ, Bool, true, false, List, [], ◌∷◌, refl}
+use Rattle.std.proofs.Common.{◌≡◌, ℕ, true, false, [], ◌∷◌, refl}
 use Rattle.mc_mol.specs.declared.parts.Bond.{Bond}
 use Rattle.mc_mol.specs.declared.parts.HalfEdge.{HalfEdge}
 use Rattle.mc_mol.specs.declared.parts.Slot.{Slot}
 use Rattle.mc_mol.specs.declared.parts.Slot.TheVariants.{At, Rest}
 use Rattle.mc_mol.specs.HalfEdges.{half_edges}
-use Rattle.mc_mol.specs.Permutations.{is_even_permutation, inversions}
+use Rattle.mc_mol.specs.Permutations.{is_even_permutation}
 
 between : ℕ → ℕ → Bond
 between u v = record { first = record { 0 = u }; second = record { 0 = v }; order = 1 }

@@ -1,5 +1,5 @@
 -- Each half-edge has its twin, and each bond has a half-edge at both of its atoms.
-use Rattle.std.proofs.Common.{◌≡◌, ◌≢◌, ℕ, ◌+◌, ◌<◌, ◌≤◌, true, ◌&&◌, ◌||◌, ◌==◌, zero, suc, List, [], ◌∷◌, ◌++◌, Some, length, reverse, slice_get, subst, sym, ap, ◌∙◌, arith, refl, inl, inr}
+use Rattle.std.proofs.Common.{◌≡◌, ◌≢◌, ℕ, ◌<◌, ◌≤◌, true, ◌&&◌, ◌==◌, List, [], ◌∷◌, ◌++◌, Some, length, reverse, slice_get, subst, sym, ap, ◌∙◌, arith, refl, inl, inr}
 use Rattle.std.specs.List.{All}
 use Rattle.std.proofs.lemmas.Bool.{cases_eq, cases_lt}
 use Rattle.std.proofs.lemmas.Option.{slice_get_within}
@@ -9,9 +9,9 @@ use Rattle.mc_mol.specs.declared.parts.Bond.{Bond}
 use Rattle.mc_mol.specs.declared.parts.HalfEdge.{HalfEdge}
 use Rattle.mc_mol.specs.Molecule.{Molecule, joins, touches}
 use Rattle.mc_mol.specs.WellFormed.{IsBond, IsMolecule}
-use Rattle.mc_mol.specs.HalfEdges.{half_edge, half_edges, half_edges_by, degree, other_end, HasTwin, AllHaveTwins}
-use Rattle.mc_mol.proofs.Lists.{All-head, All-tail, All-reverse, reverse_push, reverse_cons, slice_get-append_left, slice_get-append_seam, slice_get-append_past}
-use Rattle.mc_mol.proofs.Halves.{half_edge-first, half_edge-second, half_edge-other, length-half_edges_by, same_test, other_test, or_comm}
+use Rattle.mc_mol.specs.HalfEdges.{half_edge, half_edges_by, degree, other_end, AllHaveTwins}
+use Rattle.mc_mol.proofs.Lists.{All-head, All-tail, All-reverse, reverse_cons, slice_get-append_left, slice_get-append_seam, slice_get-append_past}
+use Rattle.mc_mol.proofs.Halves.{half_edge-first, half_edge-second, half_edge-other, length-half_edges_by, same_test, or_comm}
 
 -- `HasTwin` by the bonds so far, the latest first
 pub record TwinBy (bonds : List Bond) (atoms : ℕ) (a : AtomId) (place : ℕ) (half : HalfEdge) : Type 0 where

@@ -5,6 +5,8 @@ mod adjacency;
 mod mol;
 mod parts;
 mod permutation;
+#[cfg(test)]
+mod tests;
 
 pub use mol::{AddAtom, AddBond, Mol};
 pub use parts::{Atom, Bond, HalfEdge, Sides, Slot};

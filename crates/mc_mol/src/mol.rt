@@ -73,7 +73,7 @@ impl Model for Mol {
 impl Mol {
     ghost use Rattle.std.specs.Prelude.{◌≡◌, ◌≢◌, ◌+◌, ◌<◌, ◌≤◌, ◌++◌, [], ◌∷◌, ◌↔◌, length, OnOk, OnErr, IfOk, Some, None, slice_get, slice_set, Err, true, false};
     ghost use Rattle.mc_mol.specs.Molecule.{are_joined};
-    ghost use Rattle.mc_mol.specs.WellFormed.{IsMolecule, IsPlaceList, SidesFit};
+    ghost use Rattle.mc_mol.specs.WellFormed.{IsBond, IsMolecule, IsPlaceList, SidesFit};
     ghost use Rattle.mc_mol.specs.HalfEdges.{half_edges, AllHaveTwins};
 
     /// The molecule with no atoms.
@@ -113,7 +113,8 @@ impl Mol {
 
     pub fn bond(&self, b: BondId) -> Bond
         requires { b.0 < length self.now.bonds }
-        ensures { slice_get self.now.bonds b.0 ≡ Some result }
+        ensures value { slice_get self.now.bonds b.0 ≡ Some result }
+        ensures well_formed { IsBond (length self.now.atoms) result }
     {
         self.bonds[b.0 as usize]
     }

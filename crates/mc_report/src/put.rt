@@ -113,12 +113,7 @@ fn refused_line(alloc: Global, k: u64, refusal: &Refusal) -> Result<Text, NoMemo
 }
 
 /// Adds the line of record k, which is refused.
-pub fn put_refused(
-    alloc: Global,
-    out: &mut Text,
-    k: u64,
-    refusal: &Refusal,
-) -> Result<(), NoMemory>
+pub fn put_refused(alloc: Global, out: &mut Text, k: u64, refusal: &Refusal) -> Result<(), NoMemory>
     requires number { 1 ≤ k }
     ensures ok { OnOk result (out.new ≡ out.old ++ refused_line k refusal.now) }
     ensures err { OnErr result (out.new ≡ out.old) }

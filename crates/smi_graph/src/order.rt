@@ -46,8 +46,7 @@ fn after_dot(next: Option<Role>) -> bool
 {
     match next {
         Some(Role::Atom) => true,
-        None
-        | Some(Role::Bond(_) | Role::Ring(_) | Role::Enter | Role::Leave | Role::Dot) => false,
+        None | Some(Role::Bond(_) | Role::Ring(_) | Role::Enter | Role::Leave | Role::Dot) => false,
     }
 }
 

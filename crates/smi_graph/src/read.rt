@@ -8,7 +8,7 @@ use crate::Skeleton;
 use crate::built::is_built;
 use crate::order::{first_misplaced, first_unclosed};
 use crate::role::{elements_of, roles_of};
-use crate::skeleton::{bonds_of};
+use crate::skeleton::bonds_of;
 use mc_base::{Kind, Refusal, Stop};
 use smi_lex::{Token, tokens_of};
 use std::alloc::Global;
@@ -43,7 +43,11 @@ pub fn read_skeleton(alloc: Global, text: &[u8]) -> Result<Skeleton, Stop>
         return Err(Stop::Refused(Refusal::at(alloc, Kind::BadOrder, byte_place(text, &tokens, i))));
     }
     if let Some(i) = first_unclosed(&roles) {
-        return Err(Stop::Refused(Refusal::at(alloc, Kind::ParenOpen, byte_place(text, &tokens, i))));
+        return Err(Stop::Refused(Refusal::at(
+            alloc,
+            Kind::ParenOpen,
+            byte_place(text, &tokens, i),
+        )));
     }
     let elements = elements_of(alloc, &tokens)?;
     let bonds = bonds_of(alloc, &roles)?;

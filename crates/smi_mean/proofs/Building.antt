@@ -23,7 +23,7 @@ pub one_more_atom : (old new : Molecule) (atoms : List Atom) (i : ℕ) (d : Atom
 one_more_atom old new atoms i d within was is =
     is ∙ ap (λ (m : Molecule). let x : Molecule = record m { atoms = m.atoms ++ get_or atoms i d ∷ []; centres = m.centres ++ None ∷ [] } in x) was
     ∙ sym (ap (λ (ys : List Atom). without_stereo ys []) (take_more atoms i d within)
-        ∙ ap (λ c. let x : Molecule = record { atoms = take i atoms ++ get_or atoms i d ∷ []; bonds = []; centres = c; sides = [] } in x) (nones_push (take i atoms) (get_or atoms i d)))
+    ∙ ap (λ c. let x : Molecule = record { atoms = take i atoms ++ get_or atoms i d ∷ []; bonds = []; centres = c; sides = [] } in x) (nones_push (take i atoms) (get_or atoms i d)))
 
 -- one more bond of a list
 pub one_more_bond : (start old new : Molecule) (bonds : List Bond) (i : ℕ) (d : Bond) → i < length bonds → old ≡ without_stereo start.atoms (take i bonds)
@@ -31,7 +31,7 @@ pub one_more_bond : (start old new : Molecule) (bonds : List Bond) (i : ℕ) (d 
 one_more_bond start old new bonds i d within was is =
     is ∙ ap (λ (m : Molecule). let x : Molecule = record m { bonds = m.bonds ++ get_or bonds i d ∷ []; sides = m.sides ++ None ∷ [] } in x) was
     ∙ sym (ap (λ (ys : List Bond). without_stereo start.atoms ys) (take_more bonds i d within)
-        ∙ ap (λ c. let x : Molecule = record { atoms = start.atoms; bonds = take i bonds ++ get_or bonds i d ∷ []; centres = nones start.atoms; sides = c } in x) (nones_push (take i bonds) (get_or bonds i d)))
+    ∙ ap (λ c. let x : Molecule = record { atoms = start.atoms; bonds = take i bonds ++ get_or bonds i d ∷ []; centres = nones start.atoms; sides = c } in x) (nones_push (take i bonds) (get_or bonds i d)))
 
 -- a bond of a list joins later atoms than those before it
 none_joins : (bonds : List Bond) (u v : ℕ) → u < v → ((i : ℕ) (d : Bond) → i < length bonds → (get_or bonds i d).second.0 < v)

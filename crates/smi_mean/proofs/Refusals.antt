@@ -78,6 +78,7 @@ stands_of text m is whole within = record { accepted = accepts; molecule = is }
   where
     fine : (j : ℕ) → j < length (meaning text).atoms → overvalent_at (meaning text) j ≡ false
     fine = subst (λ (x : Molecule). (j : ℕ) → j < length x.atoms → overvalent_at x j ≡ false) is within
+
     accepts : (kind : Kind) (place : ℕ) → StandsAt text kind place → ⊥
     accepts LimitValence place (k, below, at, bad) = not_both _ bad (fine k below)
     accepts kind place h = whole kind place h

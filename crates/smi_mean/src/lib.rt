@@ -8,4 +8,3 @@ mod step;
 
 pub use read::{SmilesRead, read_smiles};
 pub use step::Step;
-

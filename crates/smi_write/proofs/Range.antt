@@ -46,7 +46,7 @@ list_in_range m n xs is = subst (λ (x : List Step). All (λ s. s.atom < length 
 listed_in_range : (n : ℕ) (xs : List Step) → All (λ s. s.atom < n) xs → All (λ (a : AtomId). a.0 < n) (map (λ (s : Step). let a : AtomId = record { 0 = s.atom } in a) xs)
 listed_in_range n [] h = λ k d less. absurd (omega arith)
 listed_in_range n (x ∷ xs) h = elim [
-    zero ↦ λ d less. h 0 x (omega arith)
+  | zero ↦ λ d less. h 0 x (omega arith)
   | suc k ↦ λ d less. listed_in_range n xs (λ i e within. h (suc i) e (omega arith)) k d (omega arith)
 ]
 

@@ -215,11 +215,13 @@ trip e es ps built_es same nested few within =
     length_map : (ks : List TokenKind) → length (map role_of ks) ≡ length ks
     length_map [] = refl
     length_map (k ∷ ks) = ap suc (length_map ks)
+
     plain_piece : (a b : Bool) (ks : List Role) → ArePlain ks → ArePlain ((role_if_not a doing.Leave ++ (role_if_not b doing.Enter ++ doing.Atom ∷ [])) ++ ks)
     plain_piece true true ks p = (tt, p)
     plain_piece true false ks p = (tt, (tt, p))
     plain_piece false true ks p = (tt, (tt, p))
     plain_piece false false ks p = (tt, (tt, (tt, p)))
+
     plain_roles : (j : ℕ) (qs : List ℕ) → ArePlain (tree_roles j qs)
     plain_roles j [] = tt
     plain_roles j (p ∷ qs) = plain_piece (p == j) (not (has p qs)) (tree_roles (suc j) qs) (plain_roles (suc j) qs)

@@ -11,4 +11,4 @@ returns-in-Err-WriteFault-clause-exactly g c = λ _ _ all.
     let fault = c.in-Err-WriteFault.is ∙ ap Err c.in-Err-WriteFault.field-0-is in
     let less = c.put_answers.ensures.less fault in
     absurd (not_all_held c.in-Ok.bytes.items (g.S.Source.left c.args.source.now 0) (g.K.Sink.held c.args.sink.now 0) (g.K.Sink.held c.put_answers.new.sink 0)
-        (g.K.Sink.held c.args.sink.now 1) (g.K.Sink.held c.put_answers.new.sink 1) c.in-Ok.ensures.bytes (rw c.deref.ensures.value at less) all)
+    (g.K.Sink.held c.args.sink.now 1) (g.K.Sink.held c.put_answers.new.sink 1) c.in-Ok.ensures.bytes (rw c.deref.ensures.value at less) all)

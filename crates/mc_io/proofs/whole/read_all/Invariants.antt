@@ -7,7 +7,7 @@ abbrev pub invariant-loop-bytes : goal.invariant-loop-bytes
 invariant-loop-bytes g l = record {
   within : l.count ≤ g.S.Source.LIMIT;
   count : length l.bytes.items ≡ l.count;
-  buffer : length l.buffer ≡ 4096;
+  buffer : length l.buffer ≡ 65536;
   taken : g.S.Source.taken l.source l.input ≡ g.S.Source.taken l.initial.source l.input + l.count;
   left : Consumes (g.S.Source.left l.initial.source l.input) (g.S.Source.left l.source l.input) l.bytes.items;
   later : g.S.Source.faults l.initial.source l.input ≤ g.S.Source.faults l.source l.input;

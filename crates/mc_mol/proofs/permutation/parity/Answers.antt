@@ -1,4 +1,4 @@
-use Rattle.std.proofs.Common.{◌≡◌, ◌%◌, ◌==◌, ◌∙◌, ℕ, ap}
+use Rattle.std.proofs.Common.{◌%◌, ◌==◌, ◌∙◌, ℕ, ap}
 use Rattle.mc_mol.proofs.Evenness.{inversions_of}
 use Rattle.mc_mol.proofs.permutation.parity.Goals as goal
 

@@ -11,7 +11,7 @@ loop-i-preserved c =
     let ks : List Role = c.args.roles.now in
     let behind = c.in-Some.ensures.behind (tokens_before ks c.loop-i.i) c.loop-i.invariant.behind in
     let more : IsBehind c.in-Some.next (tokens_before ks (c.loop-i.i + 1)) =
-        subst (λ (x : List Role). IsBehind c.in-Some.next x) (sym (tokens_before_more ks c.loop-i.i _ c.loop-i-test.true)) behind in
+    subst (λ (x : List Role). IsBehind c.in-Some.next x) (sym (tokens_before_more ks c.loop-i.i _ c.loop-i-test.true)) behind in
     record {
       behind = more;
       within = omega (arith, c.in-Some.ensures.bound, c.loop-i.invariant.within);

@@ -27,6 +27,6 @@ unreachable-requires-in-Err-Twice c =
     let b : Bond = get_or c.args.bonds.now c.loop-bond.bond-index no_bond in
     let twice = c.add_bond.ensures.twice.0 (c.in-Err-Twice.is ∙ ap Err c.in-Err-Twice.field-0-is) in
     let free : are_joined c.loop-bond.mol.bonds b.first.0 b.second.0 ≡ false =
-        ap (λ (m : Molecule). are_joined m.bonds b.first.0 b.second.0) c.loop-bond.invariant
-        ∙ not_joined c.args.bonds.now c.loop-bond.bond-index _ no_bond c.requires.later c.loop-bond-test.true in
+    ap (λ (m : Molecule). are_joined m.bonds b.first.0 b.second.0) c.loop-bond.invariant
+    ∙ not_joined c.args.bonds.now c.loop-bond.bond-index _ no_bond c.requires.later c.loop-bond-test.true in
     false≢true (sym free ∙ twice.1)

@@ -15,8 +15,8 @@ returns-clause-in_range c = written_in_range c.args.mol.now c.in_ok-order.order
 pub returns-clause-reads : goal.returns-clause-reads
 returns-clause-reads c = λ text some stands.
     let is_text : c.in_ok-text.text ≡ written_text c.args.mol.now =
-        c.in_ok-text.ensures ∙ ap (λ (x : List Step). flat_map spelling (tokens_of c.args.mol.now None x)) (c.deref.ensures.value ∙ c.in_ok-steps.ensures.order) in
+    c.in_ok-text.ensures ∙ ap (λ (x : List Step). flat_map spelling (tokens_of c.args.mol.now None x)) (c.deref.ensures.value ∙ c.in_ok-steps.ensures.order) in
     let is_order : c.in_ok-order.order ≡ written_order c.args.mol.now =
-        c.in_ok-order.ensures ∙ ap (λ (x : List Step). map (λ step. record { 0 = step.atom }) x) (c.deref-2.ensures.value ∙ c.in_ok-steps.ensures.order) in
+    c.in_ok-order.ensures ∙ ap (λ (x : List Step). map (λ step. record { 0 = step.atom }) x) (c.deref-2.ensures.value ∙ c.in_ok-steps.ensures.order) in
     subst (λ (x : List ℕ). IsReadBack c.args.mol.now x c.in_ok-order.order) (sym is_text)
     (subst (λ (x : List AtomId). IsReadBack c.args.mol.now (written_text c.args.mol.now) x) (sym is_order) (round_trip text c.args.mol.now some stands))

@@ -1,5 +1,4 @@
-use Rattle.std.proofs.Common.{◌≡◌, ◌≢◌, ◌<◌, ◌≤◌, ◌∙◌, ◌++◌, [], ◌∷◌, length, false, None, Some, slice_get, List, ap, arith, get_or, subst, sym, ℕ}
-use Rattle.smallvec.specs.SmallVec.{SmallVec as Items}
+use Rattle.std.proofs.Common.{◌≡◌, ◌≢◌, ◌<◌, ◌∙◌, ◌++◌, [], ◌∷◌, length, false, None, Some, slice_get, List, ap, arith, subst, sym}
 use Rattle.mc_mol.specs.declared.parts.Bond.{Bond}
 use Rattle.mc_mol.specs.declared.parts.HalfEdge.{HalfEdge as Half}
 use Rattle.mc_mol.specs.Molecule.{Molecule, are_joined}

@@ -1,6 +1,6 @@
-use Rattle.std.proofs.Common.{sym, subst, ℕ}
+use Rattle.std.proofs.Common.{sym, subst}
 use Rattle.mc_mol.specs.Molecule.{Molecule}
-use Rattle.mc_mol.specs.WellFormed.{IsPlaceList, SidesFit}
+use Rattle.mc_mol.specs.WellFormed.{IsPlaceList}
 use Rattle.mc_mol.proofs.Marked.{marks_centre}
 use Rattle.mc_mol.proofs.mol.Mol.set_centre.Goals as goal
 

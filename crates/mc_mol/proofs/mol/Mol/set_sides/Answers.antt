@@ -1,6 +1,6 @@
-use Rattle.std.proofs.Common.{sym, subst, ℕ}
+use Rattle.std.proofs.Common.{sym, subst}
 use Rattle.mc_mol.specs.Molecule.{Molecule}
-use Rattle.mc_mol.specs.WellFormed.{IsPlaceList, SidesFit}
+use Rattle.mc_mol.specs.WellFormed.{SidesFit}
 use Rattle.mc_mol.proofs.Marked.{marks_sides}
 use Rattle.mc_mol.proofs.mol.Mol.set_sides.Goals as goal
 

@@ -8,7 +8,7 @@ use Rattle.smi_graph.proofs.skeleton.Builder.read_atom.Goals as goal
 pub returns-clause-reads : goal.returns-clause-reads
 returns-clause-reads c = λ before reads.
     let first : predecessor before ≡ unless_dot c.args.self.now.after_dot c.args.self.now.last =
-        predecessor_is before ∙ ap (λ (b : Bool). unless_dot b (open_once_closed 0 before)) (sym reads.after_dot) ∙ ap (unless_dot c.args.self.now.after_dot) (sym reads.last) in
+    predecessor_is before ∙ ap (λ (b : Bool). unless_dot b (open_once_closed 0 before)) (sym reads.after_dot) ∙ ap (unless_dot c.args.self.now.after_dot) (sym reads.last) in
     record {
       bonds = c.in_ok-push_bond.ensures
           ∙ ap (λ (o : Option ℕ). c.args.self.now.bonds.items ++ bond_to o c.args.self.now.count) (c.unless_dot.ensures ∙ sym first)

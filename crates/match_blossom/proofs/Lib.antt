@@ -1,0 +1,14 @@
+pub mod Parity
+pub mod Failure
+pub mod Pairs
+pub mod Cycles
+pub mod Unfolding
+pub mod Lifting
+pub mod Ending
+pub mod Folded
+pub mod Growing
+pub mod Augmenting
+pub mod Climbing
+pub mod Meeting
+pub mod Steps
+pub mod Scanning

@@ -1,0 +1,269 @@
+use crate::{Matched, Matcher};
+use match_barrier::{Graph, Scratch, is_barrier, is_perfect};
+use std::process::Abort;
+use std::test::Fail;
+
+/// What was answered, once the checkers have confirmed it.
+#[derive(Clone, Copy, PartialEq, Eq)]
+enum Verdict {
+    Perfect,
+    Barrier {
+        size: usize,
+        odd: u32,
+        greatest: Option<u32>,
+    },
+}
+
+/// Adds an edge where there can be one.
+fn join(graph: &mut Graph, u: u32, v: u32) -> Result<(), Fail> {
+    let nodes = graph.node_count();
+    if u < nodes && v < nodes && u != v && !graph.are_adjacent(u, v) {
+        graph.add_edge(u, v)?;
+    }
+    Ok(())
+}
+
+/// Solves a graph and confirms the answer.
+fn confirmed(rt: &(impl Abort + AllocGlobal), graph: &Graph) -> Result<Verdict, Fail> {
+    let nodes = graph.node_count();
+    let mut matcher = Matcher::reserve(rt.alloc(), nodes, 10000)?;
+    let mut scratch = Scratch::reserve(rt.alloc(), nodes)?;
+    match matcher.solve(graph)? {
+        Matched::Perfect(mates) => {
+            assert!(rt; is_perfect(graph, mates));
+            Ok(Verdict::Perfect)
+        }
+        Matched::Barrier(set) => {
+            let odd = is_barrier(graph, set, &mut scratch).ok_or("no barrier")?;
+            Ok(Verdict::Barrier {
+                size: set.len(),
+                odd,
+                greatest: set.iter().copied().max(),
+            })
+        }
+    }
+}
+
+/// Whether the nodes outside a mask can be paired off, by trying all pairings.
+fn can_pair(rt: &impl Abort, graph: &Graph, paired: u32, depth: u32) -> bool {
+    if depth == 0 {
+        return false;
+    }
+    let nodes = graph.node_count();
+    let mut first = nodes;
+    for v in 0..nodes {
+        assert!(rt; v < 32);
+        if first == nodes && paired & (1 << v) == 0 {
+            first = v;
+        }
+    }
+    if first == nodes {
+        return true;
+    }
+    for w in 0..nodes {
+        assert!(rt; w < 32 && first < 32 && first < nodes);
+        if paired & (1 << w) == 0
+            && graph.are_adjacent(first, w)
+            && can_pair(rt, graph, paired | (1 << w) | (1 << first), depth - 1)
+        {
+            return true;
+        }
+    }
+    false
+}
+
+#[test]
+fn all_small_graphs(rt: HostRuntime) -> Result<(), Fail> {
+    for (nodes, pairs) in [(0u32, 0u32), (1, 0), (2, 1), (3, 3), (4, 6), (5, 10)] {
+        assert!(rt; pairs < 32 && nodes < 32);
+        for bits in 0u32..1 << pairs {
+            let mut graph = Graph::new(rt.alloc(), nodes)?;
+            let mut pair = 0u32;
+            for u in 0..nodes {
+                for v in 0..u {
+                    assert!(rt; pair < 32);
+                    if bits & (1 << pair) != 0 {
+                        join(&mut graph, u, v)?;
+                    }
+                    pair += 1;
+                }
+            }
+            let perfect = matches!(confirmed(&rt, &graph)?, Verdict::Perfect);
+            assert!(rt;
+                perfect == can_pair(&rt, &graph, 0, 8),
+                "{nodes} nodes, pairs {bits}"
+            );
+        }
+    }
+    Ok(())
+}
+
+/// Graphs that need odd cycles folded: their nodes, their edges, and whether they have a perfect matching.
+const FOLDED: [(u32, &[(u32, u32)], bool); 7] = [
+    // a closed path of five, alone and with a node at one of its nodes
+    (5, &[(0, 1), (1, 2), (2, 3), (3, 4), (4, 0)], false),
+    (6, &[(0, 1), (1, 2), (2, 3), (3, 4), (4, 0), (2, 5)], true),
+    // the cycle at the root: the way out leaves it at each of its nodes
+    (
+        6,
+        &[(1, 2), (3, 4), (0, 1), (0, 2), (0, 3), (0, 4), (1, 5)],
+        true,
+    ),
+    (6, &[(1, 2), (3, 4), (0, 1), (2, 3), (4, 0), (3, 5)], true),
+    // a cycle in a cycle
+    (
+        8,
+        &[
+            (0, 1),
+            (2, 3),
+            (4, 5),
+            (1, 2),
+            (1, 3),
+            (2, 4),
+            (5, 3),
+            (5, 6),
+            (0, 7),
+        ],
+        true,
+    ),
+    (
+        8,
+        &[
+            (1, 2),
+            (3, 4),
+            (5, 6),
+            (0, 1),
+            (0, 2),
+            (2, 3),
+            (1, 4),
+            (4, 5),
+            (3, 6),
+            (6, 7),
+        ],
+        true,
+    ),
+    // three triangles at one node
+    (
+        7,
+        &[
+            (0, 1),
+            (1, 2),
+            (2, 0),
+            (0, 3),
+            (3, 4),
+            (4, 0),
+            (0, 5),
+            (5, 6),
+            (6, 0),
+        ],
+        false,
+    ),
+];
+
+#[test]
+fn folded_cycles(rt: HostRuntime) -> Result<(), Fail> {
+    for (nodes, edges, perfect) in FOLDED {
+        let mut graph = Graph::new(rt.alloc(), nodes)?;
+        for (u, v) in edges {
+            join(&mut graph, *u, *v)?;
+        }
+        assert!(rt;
+            matches!(confirmed(&rt, &graph)?, Verdict::Perfect) == perfect,
+            "{nodes} nodes"
+        );
+    }
+    Ok(())
+}
+
+/// A path, or a ladder of two rails, in order.
+fn rails(rt: &impl AllocGlobal, nodes: u32, rails: u32) -> Result<Graph, Fail> {
+    let mut graph = Graph::new(rt.alloc(), nodes)?;
+    for v in 0..nodes {
+        join(&mut graph, v, v.saturating_add(rails))?;
+        if rails == 2 && v % 2 == 0 {
+            join(&mut graph, v, v.saturating_add(1))?;
+        }
+    }
+    Ok(graph)
+}
+
+/// Rings of six, and one of five behind them.
+fn rings(rt: &impl AllocGlobal, sixes: u32) -> Result<Graph, Fail> {
+    let mut graph = Graph::new(rt.alloc(), sixes.saturating_mul(6).saturating_add(5))?;
+    for ring in 0..sixes.saturating_add(1) {
+        let first = ring.saturating_mul(6);
+        let size = if ring == sixes { 5 } else { 6 };
+        for k in 0..size {
+            join(
+                &mut graph,
+                first.saturating_add(k),
+                first.saturating_add((k + 1) % size),
+            )?;
+        }
+    }
+    Ok(graph)
+}
+
+/// Triangles, each with one node that is joined to each of the single nodes, which come first.
+fn triangles(rt: &impl AllocGlobal) -> Result<Graph, Fail> {
+    let mut graph = Graph::new(rt.alloc(), 202)?;
+    for j in 0u32..51 {
+        let first = 49 + 3 * j;
+        join(&mut graph, first, first + 1)?;
+        join(&mut graph, first + 1, first + 2)?;
+        join(&mut graph, first + 2, first)?;
+        for single in 0..49 {
+            join(&mut graph, single, first)?;
+        }
+    }
+    Ok(graph)
+}
+
+/// Triangles in a chain: folding the first makes the second a cycle through it, and so on.
+fn nested_cycles(rt: &impl AllocGlobal, nodes: u32) -> Result<Graph, Fail> {
+    let mut graph = Graph::new(rt.alloc(), nodes)?;
+    for v in 0..nodes {
+        join(&mut graph, v, v.saturating_add(1))?;
+        if v % 2 == 0 {
+            join(&mut graph, v, v.saturating_add(2))?;
+        }
+    }
+    Ok(graph)
+}
+
+/// Each node is joined to each other.
+fn complete(rt: &impl AllocGlobal, nodes: u32) -> Result<Graph, Fail> {
+    let mut graph = Graph::new(rt.alloc(), nodes)?;
+    for v in 0..nodes {
+        for u in 0..v {
+            join(&mut graph, u, v)?;
+        }
+    }
+    Ok(graph)
+}
+
+#[test]
+fn large_graphs(rt: HostRuntime) -> Result<(), Fail> {
+    assert!(rt; matches!(confirmed(&rt, &rails(&rt, 998, 1)?)?, Verdict::Perfect));
+    assert!(rt; matches!(confirmed(&rt, &rails(&rt, 998, 2)?)?, Verdict::Perfect));
+    assert!(rt;
+        matches!(
+            confirmed(&rt, &rings(&rt, 98)?)?,
+            Verdict::Barrier { odd: 1, .. }
+        )
+    );
+    let blocked = Verdict::Barrier {
+        size: 49,
+        odd: 51,
+        greatest: Some(48),
+    };
+    assert!(rt; confirmed(&rt, &triangles(&rt)?)? == blocked);
+    assert!(rt;
+        matches!(
+            confirmed(&rt, &nested_cycles(&rt, 501)?)?,
+            Verdict::Barrier { odd: 1, .. }
+        )
+    );
+    assert!(rt; matches!(confirmed(&rt, &complete(&rt, 60)?)?, Verdict::Perfect));
+    Ok(())
+}

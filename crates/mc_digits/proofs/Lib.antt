@@ -1,0 +1,6 @@
+pub mod Powers
+pub mod Spaces
+pub mod Fields
+pub mod FixedFields
+pub mod Exact
+pub mod ReadBack

@@ -1,0 +1,77 @@
+use crate::*;
+use mc_base::{AtomId, BondId};
+use mc_elements::Element;
+use std::alloc::Global;
+use std::test::Fail;
+
+fn carbon() -> Atom {
+    Atom {
+        element: Element::C,
+        isotope: 0,
+        charge: 0,
+        hydrogens: 0,
+        class: 0,
+    }
+}
+
+fn atoms(alloc: Global, count: u32) -> Result<Mol, AddAtom> {
+    let mut mol = Mol::new(alloc);
+    for _ in 0..count {
+        mol.add_atom(carbon())?;
+    }
+    Ok(mol)
+}
+
+/// Adds a bond, or says that there is no such atom.
+fn add(mol: &mut Mol, u: u32, v: u32, order: u8) -> Option<Result<BondId, AddBond>> {
+    if u >= mol.atom_count() || v >= mol.atom_count() || order < 1 || order > 4 {
+        return None;
+    }
+    if let Some(_) = mol.centre(AtomId(u)) {
+        return None;
+    }
+    if let Some(_) = mol.centre(AtomId(v)) {
+        return None;
+    }
+    Some(mol.add_bond(AtomId(u), AtomId(v), order))
+}
+
+#[test]
+fn a_ring_of_three_with_a_tail(rt: HostRuntime) -> Result<(), Fail> {
+    let mut mol = atoms(rt.alloc(), 4)?;
+    assert_eq!(rt; add(&mut mol, 0, 1, 1), Some(Ok(BondId(0))));
+    assert_eq!(rt; add(&mut mol, 1, 2, 2), Some(Ok(BondId(1))));
+    assert_eq!(rt; add(&mut mol, 0, 2, 1), Some(Ok(BondId(2))));
+    assert_eq!(rt; add(&mut mol, 1, 3, 1), Some(Ok(BondId(3))));
+    assert_eq!(rt; add(&mut mol, 2, 2, 1), Some(Err(AddBond::Same)));
+    assert_eq!(rt; add(&mut mol, 3, 1, 3), Some(Err(AddBond::Twice)));
+    assert_eq!(rt; mol.bond_count(), 4);
+    assert_eq!(rt; mol.atom_count(), 4);
+    let halves = mol.bonds_of(AtomId(1));
+    assert_eq!(rt; halves.len(), 3);
+    assert_eq!(rt; halves[1].bond, BondId(1));
+    assert_eq!(rt; halves[1].to, AtomId(2));
+    assert_eq!(rt; halves[1].twin, 0);
+    Ok(())
+}
+
+#[test]
+fn a_molecule_has_at_most_999_atoms(rt: HostRuntime) -> Result<(), Fail> {
+    let mut mol = atoms(rt.alloc(), 999)?;
+    assert_eq!(rt; mol.add_atom(carbon()), Err(AddAtom::Limit));
+    assert_eq!(rt; mol.atom_count(), 999);
+    Ok(())
+}
+
+#[test]
+fn parity_counts_the_rest_as_a_place(rt: HostRuntime) -> Result<(), Fail> {
+    let at = |a: u32| Slot::At(AtomId(a));
+    let list = [at(1), Slot::Rest, at(2), at(3)];
+    let turned = [Slot::Rest, at(1), at(2), at(3)];
+    let even = [Slot::Rest, at(1), at(3), at(2)];
+    let other = [at(1), Slot::Rest, at(2), at(4)];
+    assert_eq!(rt; parity(&list, &turned), Some(false));
+    assert_eq!(rt; parity(&list, &even), Some(true));
+    assert_eq!(rt; parity(&list, &other), None);
+    Ok(())
+}

@@ -1,0 +1,3 @@
+pub mod RingSizes
+pub mod Levels
+pub mod Rows

@@ -1,0 +1,40 @@
+use Rattle.std.proofs.Common.{length, List, ap, arith, vec_len}
+use Rattle.mc_base.specs.declared.ids.AtomId.{AtomId}
+use Rattle.mc_rings.specs.Levels.{unmarked}
+use Rattle.mc_rings.proofs.Levels.{begun_at, begun_few, next_begun, finished_at, zero_test, nonzero_test}
+use Rattle.mc_rings.proofs.search.distances.Goals as goal
+
+pub levels-init : goal.levels-init
+levels-init c = record {
+  between = begun_at c.args.mol.now.bonds c.args.bond.second.0 (length c.args.mol.now.atoms) c.atom_count.result c.args.bond.first c.in_ok-search.search.marks.items
+      c.in_ok-current.current.items c.in_ok-search.search.next.items c.requires c.atom_count.ensures.count c.in_ok-search.ensures.marks c.in_ok-current.ensures.items
+      c.in_ok-search.ensures.next;
+  empty = c.in_ok-search.ensures.next;
+  few = begun_few (length c.args.mol.now.atoms) c.atom_count.result c.args.bond.first c.in_ok-search.search.marks.items c.in_ok-current.current.items c.requires
+      c.atom_count.ensures.count c.in_ok-search.ensures.marks c.in_ok-current.ensures.items;
+}
+
+pub levels-preserved : goal.levels-preserved
+levels-preserved c = record {
+  between = next_begun c.args.mol.now.bonds c.args.bond.first.0 c.args.bond.second.0 (length c.args.mol.now.atoms) c.levels.level _ _ _ _ _ _
+      c.in_ok-explore_all.ensures.done c.take_next-current.ensures.marks c.take_next-current.ensures.next c.take_next-current.ensures.empty;
+  empty = c.take_next-current.ensures.empty;
+  few =
+      let total = c.in_ok-explore_all.ensures.total in
+      let none = ap (λ (xs : List AtomId). length xs) c.levels.invariant.empty in
+      let next = ap (λ (xs : List AtomId). length xs) c.take_next-current.ensures.next in
+      let few = c.levels.invariant.few in
+      let marks = ap unmarked c.take_next-current.ensures.marks in
+      let some = nonzero_test (vec_len c.levels.current) c.levels-test.ensures in
+      omega arith;
+}
+
+pub returns-clause-distances : goal.returns-clause-distances
+returns-clause-distances c = finished_at c.args.mol.now.bonds c.args.bond.first.0 c.args.bond.second.0 (length c.args.mol.now.atoms) c.levels.level c.levels.current.items c.levels.search.next.items
+    c.levels.search.marks.items (let none = zero_test (vec_len c.levels.current) c.levels-test.ensures in omega arith) c.levels.invariant.empty c.levels.invariant.between
+
+pub returns-clause-count : goal.returns-clause-count
+returns-clause-count c = c.levels.invariant.between.count
+
+pub returns-clause-few : goal.returns-clause-few
+returns-clause-few c a d at = omega (arith, c.levels.invariant.between.low a d at, c.levels.invariant.few, c.atom_count.ensures.few, c.atom_count.ensures.count)

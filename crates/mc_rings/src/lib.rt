@@ -1,0 +1,14 @@
+//! The rings of a molecule: for each bond the least closed path through it.
+#![tactic(auto)]
+
+mod centres;
+mod rings;
+mod search;
+mod side_places;
+mod sizes;
+#[cfg(test)]
+mod tests;
+
+pub use centres::may_be_centre;
+pub use rings::Rings;
+pub use side_places::may_have_sides;

@@ -1,0 +1,138 @@
+use crate::{Rings, may_be_centre};
+use mc_base::{AtomId, BondId};
+use mc_elements::Element;
+use mc_mol::{AddAtom, Atom, Mol};
+use std::alloc::Global;
+use std::process::Abort;
+use std::test::Fail;
+
+fn carbon(hydrogens: u8) -> Atom {
+    Atom {
+        element: Element::C,
+        isotope: 0,
+        charge: 0,
+        hydrogens,
+        class: 0,
+    }
+}
+
+fn atoms(alloc: Global, count: u32) -> Result<Mol, AddAtom> {
+    let mut mol = Mol::new(alloc);
+    for _ in 0..count {
+        mol.add_atom(carbon(0))?;
+    }
+    Ok(mol)
+}
+
+/// Adds a bond, and says whether it is there now.
+fn add(mol: &mut Mol, u: u32, v: u32, order: u8) -> bool {
+    if u >= mol.atom_count() || v >= mol.atom_count() || order < 1 || order > 4 {
+        return false;
+    }
+    if let Some(_) = mol.centre(AtomId(u)) {
+        return false;
+    }
+    if let Some(_) = mol.centre(AtomId(v)) {
+        return false;
+    }
+    mol.add_bond(AtomId(u), AtomId(v), order).is_ok()
+}
+
+/// The molecule with these single bonds.
+fn molecule(
+    rt: &(impl Abort + AllocGlobal),
+    count: u32,
+    pairs: &[(u32, u32)],
+) -> Result<Mol, AddAtom> {
+    let mut mol = atoms(rt.alloc(), count)?;
+    for (u, v) in pairs {
+        assert!(rt; add(&mut mol, *u, *v, 1));
+    }
+    Ok(mol)
+}
+
+/// The ring size of each bond, 0 where there is none, is as listed.
+fn check_sizes(
+    rt: &(impl Abort + AllocGlobal),
+    mol: &Mol,
+    sizes: &[u32],
+) -> Result<(), mc_base::NoMemory> {
+    let rings = Rings::of(rt.alloc(), mol)?;
+    assert_eq!(rt; mol.bond_count() as usize, sizes.len());
+    for (k, size) in sizes.iter().enumerate() {
+        assert_eq!(rt; rings.ring_size(BondId(k as u32)).unwrap_or(0), *size);
+        assert_eq!(rt; rings.is_bridge(BondId(k as u32)), *size == 0);
+    }
+    Ok(())
+}
+
+#[test]
+fn ring_sizes(rt: HostRuntime) -> Result<(), Fail> {
+    // two rings of three, joined by a bond
+    let joined = molecule(
+        &rt,
+        6,
+        &[(0, 1), (1, 2), (0, 2), (2, 3), (3, 4), (4, 5), (3, 5)],
+    )?;
+    check_sizes(&rt, &joined, &[3, 3, 3, 0, 3, 3, 3])?;
+    // two rings of five that share a bond
+    let shared = molecule(
+        &rt,
+        8,
+        &[
+            (0, 1),
+            (1, 2),
+            (2, 3),
+            (3, 4),
+            (0, 4),
+            (4, 5),
+            (5, 6),
+            (6, 7),
+            (3, 7),
+        ],
+    )?;
+    check_sizes(&rt, &shared, &[5, 5, 5, 5, 5, 5, 5, 5, 5])?;
+    // a ring of six with a bond across
+    let across = molecule(
+        &rt,
+        6,
+        &[(0, 1), (1, 2), (2, 3), (3, 4), (4, 5), (0, 5), (0, 3)],
+    )?;
+    check_sizes(&rt, &across, &[4, 4, 4, 4, 4, 4, 4])?;
+    // a cube
+    let cube = molecule(
+        &rt,
+        8,
+        &[
+            (0, 1),
+            (1, 3),
+            (3, 2),
+            (2, 0),
+            (4, 5),
+            (5, 7),
+            (7, 6),
+            (6, 4),
+            (0, 4),
+            (1, 5),
+            (2, 6),
+            (3, 7),
+        ],
+    )?;
+    check_sizes(&rt, &cube, &[4, 4, 4, 4, 4, 4, 4, 4, 4, 4, 4, 4])?;
+    // three parts, one of them a single atom
+    let parts = molecule(&rt, 6, &[(0, 1), (2, 3), (3, 4), (4, 2)])?;
+    check_sizes(&rt, &parts, &[0, 3, 3, 3])?;
+    let empty = molecule(&rt, 0, &[])?;
+    check_sizes(&rt, &empty, &[])?;
+    Ok(())
+}
+
+#[test]
+fn centres(rt: HostRuntime) -> Result<(), Fail> {
+    let star = molecule(&rt, 5, &[(0, 1), (0, 2), (0, 3), (0, 4)])?;
+    let rings = Rings::of(rt.alloc(), &star)?;
+    assert_eq!(rt; star.atom_count(), 5);
+    assert!(rt; may_be_centre(&star, &rings, AtomId(0)));
+    assert!(rt; !may_be_centre(&star, &rings, AtomId(1)));
+    Ok(())
+}
