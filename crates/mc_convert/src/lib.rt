@@ -4,7 +4,11 @@
 mod answer;
 mod run;
 mod status;
-pub mod words;
+mod words;
 
 pub use answer::{Answer, answer_record};
+pub use run::run;
 pub use status::Status;
+
+#[cfg(test)]
+mod tests;

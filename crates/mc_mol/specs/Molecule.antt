@@ -1,4 +1,4 @@
--- Molecules: OpenSMILES 1.0, sections 3.1 to 3.4 and 3.8 (atoms, bonds, stereo by the order of neighbours).
+-- Molecules: OpenSMILES 1.0, sections 3.1 to 3.4 and 3.9 (atoms, bonds, stereo by the order of neighbours).
 use Rattle.std.specs.List.{list_any}
 use Rattle.std.specs.Prelude.{ℕ, Bool, ◌&&◌, ◌||◌, List, Option, if◌then◌else◌, ◌==◌, sum_by}
 use Rattle.mc_mol.specs.declared.parts.Atom.{Atom}

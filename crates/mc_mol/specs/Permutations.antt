@@ -1,4 +1,4 @@
--- Lists of places that differ by an even permutation say the same (OpenSMILES 1.0, section 3.8.1 and its table of orders).
+-- Lists of places that differ by an even permutation say the same (OpenSMILES 1.0, section 3.9.2 and its table of orders).
 use Rattle.std.specs.Prelude.{◌≢◌, ℕ, ◌+◌, ◌%◌, ◌==◌, Bool, true, false, List, [], ◌∷◌, nat_lt, map, count_by, length, position, unwrap_or, AllPairs}
 use Rattle.std.specs.List.{list_any}
 use Rattle.mc_mol.specs.declared.parts.Slot.{Slot}

@@ -1,4 +1,4 @@
--- When two molecules are the same under a map of their atoms (this project's own; stereo after OpenSMILES 1.0, section 3.8).
+-- When two molecules are the same under a map of their atoms (this project's own; stereo after OpenSMILES 1.0, section 3.9).
 use Rattle.std.specs.Prelude.{◌≡◌, ◌≢◌, ℕ, ◌<◌, Bool, true, not, ◌==◌, if◌then◌else◌, List, Option, Some, None, slice_get, slice_index_or, length, map, Contains}
 use Rattle.mc_base.specs.declared.ids.AtomId.{AtomId}
 use Rattle.mc_mol.specs.declared.parts.Bond.{Bond}

@@ -1,4 +1,4 @@
--- Which lists are a molecule (this project's own, after OpenSMILES 1.0, section 3.8: a stereocentre is said by the order of its neighbours).
+-- Which lists are a molecule (this project's own, after OpenSMILES 1.0, section 3.9: a stereocentre is said by the order of its neighbours).
 use Rattle.std.specs.Prelude.{◌≡◌, ◌≢◌, ℕ, ◌<◌, ◌≤◌, ◌↔◌, true, false, List, Some, length, slice_get, All, AllPairs, Contains}
 use Rattle.mc_mol.specs.declared.parts.Bond.{Bond}
 use Rattle.mc_mol.specs.declared.parts.Sides.{Sides}

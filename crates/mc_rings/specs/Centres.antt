@@ -1,4 +1,4 @@
--- Which atoms may be tetrahedral centres (this project's own, after OpenSMILES 1.0, section 3.8).
+-- Which atoms may be tetrahedral centres (this project's own, after OpenSMILES 1.0, section 3.9).
 use Rattle.std.specs.Prelude.{ℕ, Bool, true, false, ◌&&◌, ◌||◌, ◌==◌, List, Option, Some, None, if◌then◌else◌, length, nat_le, count_by, slice_get}
 use Rattle.mc_mol.specs.declared.parts.Atom.{Atom}
 use Rattle.mc_mol.specs.declared.parts.Bond.{Bond}

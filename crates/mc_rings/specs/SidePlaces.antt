@@ -1,4 +1,4 @@
--- Which double bonds may have sides (this project's own, after OpenSMILES 1.0, section 3.8.3).
+-- Which double bonds may have sides (this project's own, after OpenSMILES 1.0, section 3.9.3).
 use Rattle.std.specs.Prelude.{ℕ, Bool, true, false, not, ◌&&◌, ◌||◌, ◌==◌, List, Option, Some, None, length, nat_le, nat_lt, count_by, slice_get}
 use Rattle.std.specs.List.{list_all, list_any}
 use Rattle.std.specs.Ordering.{int_eq}

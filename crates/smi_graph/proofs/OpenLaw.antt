@@ -1,12 +1,12 @@
 -- Going back over closed branches finds the latest atom that is open.
-use Rattle.std.proofs.Common.{arith, ◌≡◌, ◌∙◌, ℕ, zero, suc, ◌+◌, ◌≤◌, List, [], ◌∷◌, ◌++◌, Bool, true, false, Option, Some, None, refl, ap, sym, subst}
-use Rattle.std.specs.Prelude.{◌&&◌, nat_le, if◌then◌else◌}
+use Rattle.std.proofs.Common.{arith, ◌≡◌, ◌∙◌, ℕ, zero, suc, ◌+◌, ◌≤◌, List, [], ◌∷◌, ◌++◌, Bool, true, false, refl, ap}
+use Rattle.std.specs.Prelude.{◌&&◌, nat_le}
 use Rattle.std.proofs.lemmas.Bool.Decides.{nat_tests}
 use Rattle.std.proofs.lemmas.Bool.{false≢true}
 use Rattle.smi_graph.specs.declared.role.Role.{Role}
 use Rattle.smi_graph.specs.declared.role.Role.TheVariants.{Atom, Bond, Ring, Enter, Leave, Dot}
 use Rattle.smi_graph.specs.Order.{latest}
-use Rattle.smi_graph.specs.Bonds.{atom_count, openers, closers, never_falls, latest_open, predecessor}
+use Rattle.smi_graph.specs.Bonds.{openers, closers, never_falls, latest_open, predecessor}
 use Rattle.smi_graph.specs.Reading.{open_once_closed, is_dot, unless_dot}
 
 -- how many branches are closed, going back over one more token

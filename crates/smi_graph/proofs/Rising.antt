@@ -1,5 +1,5 @@
 -- The bonds of tokens go from earlier atoms to later ones.
-use Rattle.std.proofs.Common.{arith, ◌≡◌, ◌∙◌, ℕ, zero, suc, ◌+◌, ◌<◌, ◌≤◌, List, [], ◌∷◌, ◌++◌, length, get_or, map, reverse, Bool, true, false, Option, Some, None, refl, ap, sym, subst, inl, inr}
+use Rattle.std.proofs.Common.{arith, ◌≡◌, ◌∙◌, ℕ, ◌+◌, ◌<◌, List, [], ◌∷◌, ◌++◌, length, get_or, reverse, Bool, true, false, Option, Some, None, refl, ap, sym, subst, inl, inr}
 use Rattle.std.specs.Prelude.{if◌then◌else◌}
 use Rattle.std.proofs.lemmas.Bool.{cases_lt}
 use Rattle.std.proofs.lemmas.List.{append-nil, length_push, get_or_push, get_or_append_left, length-append}
@@ -12,7 +12,7 @@ use Rattle.smi_lex.specs.declared.token.TokenKind.TheVariants as kind
 use Rattle.smi_graph.specs.declared.role.Role.{Role}
 use Rattle.smi_graph.specs.declared.role.Role.TheVariants.{Atom, Bond, Ring, Enter, Leave, Dot}
 use Rattle.smi_graph.specs.Roles.{role_of, roles, element_of, elements}
-use Rattle.smi_graph.specs.Bonds.{atom_count, never_falls, latest_open, predecessor, bond_to, bonds_at, bonds_of}
+use Rattle.smi_graph.specs.Bonds.{atom_count, never_falls, latest_open, predecessor, bond_to, bonds_of}
 use Rattle.smi_graph.specs.Later.{JoinLater}
 
 some_is : (a b : ℕ) → Some a ≡ Some b → a ≡ b

@@ -1,4 +1,4 @@
--- Which earlier atom an atom is joined to: OpenSMILES 1.0, section 3.4 (branches).
+-- Which earlier atom an atom is joined to: OpenSMILES 1.0, section 3.3 (branches).
 -- `before` is always the list of the tokens before a place, the latest first.
 use Rattle.std.specs.Prelude.{ℕ, ◌+◌, Bool, true, ◌&&◌, List, [], ◌∷◌, ◌++◌, Option, Some, None, nat_le, if◌then◌else◌}
 use Rattle.mc_mol.specs.declared.parts.Bond as bond

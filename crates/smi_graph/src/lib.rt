@@ -6,6 +6,7 @@ mod order;
 mod read;
 mod role;
 mod skeleton;
+mod tokens;
 
 pub use read::read_skeleton;
 pub use role::Role;

@@ -9,8 +9,9 @@ use crate::built::is_built;
 use crate::order::{first_misplaced, first_unclosed};
 use crate::role::{elements_of, roles_of};
 use crate::skeleton::bonds_of;
+use crate::tokens::tokens_of;
 use mc_base::{Kind, Refusal, Stop};
-use smi_lex::{Token, tokens_of};
+use smi_lex::Token;
 use std::alloc::Global;
 
 /// The byte at which token i stands, from 1; the end is the byte behind the text.

@@ -1,0 +1,13 @@
+pub mod Numbers
+pub mod Sound
+pub mod TokenSound
+pub mod Complete
+pub mod TokenRead
+pub mod Letters
+pub mod Rows
+pub mod Longest
+pub mod Steps
+pub mod Causes
+pub mod Stepping
+pub mod Reading
+pub mod Written

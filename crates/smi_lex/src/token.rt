@@ -1,4 +1,4 @@
-use mc_base::Span;
+use mc_base::{Kind, Span};
 use mc_elements::Element;
 
 /// The symbol of a bond.
@@ -13,14 +13,16 @@ pub enum BondMark {
     Backslash,
 }
 
-/// A token of a SMILES text (OpenSMILES 1.0, section 2). `Enter` and `Leave` are the parentheses of a branch.
+/// What a token says.
 #[derive(Clone, Copy, Debug, PartialEq, Eq)]
 pub enum TokenKind {
+    /// an atom without brackets
     Bare {
         element: Element,
         lower: bool,
     },
-    /// an atom in brackets; `chiral` is whether its mark is `@`, and not `@@`
+    /// An atom in brackets. An isotope or a class that isn't written is 0, and one that a `u32` can't
+    /// hold is its greatest value. A chiral part is true for `@` and false for `@@`.
     Bracket {
         element: Element,
         lower: bool,
@@ -31,15 +33,30 @@ pub enum TokenKind {
         class: u32,
     },
     Bond(BondMark),
+    /// a ring number, 0 to 99
     Ring(u8),
+    /// `(`
     Enter,
+    /// `)`
     Leave,
+    /// `.`
     Dot,
 }
 
-/// A token and where it stands.
+/// A token, and where it stands in the text.
 #[derive(Clone, Copy, Debug, PartialEq, Eq)]
 pub struct Token {
     pub kind: TokenKind,
     pub span: Span,
+}
+
+/// What a lexer answers.
+#[derive(Clone, Copy, Debug, PartialEq, Eq)]
+pub enum LexStep {
+    Token(Token),
+    /// the whole text is read
+    End,
+    /// No token begins at this byte, which counts from 1. The kind is `BadToken`, `Wildcard` or
+    /// `OtherChirality`.
+    Refused(Kind, u32),
 }

@@ -1,5 +1,5 @@
 -- The molecule of a skeleton: OpenSMILES 1.0, section 3.1.5 (hydrogens of the organic subset).
-use Rattle.std.specs.Prelude.{ℕ, ◌+◌, ℤ, pos, List, [], ◌∷◌, Option, None, reverse}
+use Rattle.std.specs.Prelude.{ℕ, ◌+◌, pos, List, [], ◌∷◌, Option, None, reverse}
 use Rattle.mc_elements.specs.declared.element.Element.{Element}
 use Rattle.mc_elements.specs.Valences.{smiles_valences, implied}
 use Rattle.mc_mol.specs.declared.parts.Atom.{Atom}

@@ -2,7 +2,6 @@
 use Rattle.std.specs.List.{list_any}
 use Rattle.std.specs.Prelude.{ℕ, zero, suc, Bool, true, false, not, ◌&&◌, List, [], ◌∷◌, ◌++◌, Option, Some, None, ◌==◌, slice_get, length, reverse, map, flat_map, option_map, option_to_list}
 use Rattle.mc_base.specs.declared.ids.AtomId.{AtomId}
-use Rattle.mc_elements.specs.declared.element.Element.{Element}
 use Rattle.mc_elements.specs.declared.element.Element.TheVariants.{C}
 use Rattle.mc_elements.specs.Elements.{symbol}
 use Rattle.mc_mol.specs.declared.parts.Atom.{Atom}

@@ -1,9 +1,9 @@
 -- No bond of a molecule joins an atom to itself.
-use Rattle.std.proofs.Common.{arith, ◌≡◌, ℕ, ◌<◌, List, [], ◌∷◌, Bool, false, refl, sym, ap, ◌∙◌, ◌≢◌}
+use Rattle.std.proofs.Common.{arith, ◌≡◌, ℕ, List, [], ◌∷◌, false, refl, sym, ap, ◌∙◌, ◌≢◌}
 use Rattle.std.specs.Prelude.{All, ◌&&◌, ◌||◌, ◌==◌}
 use Rattle.std.proofs.lemmas.Bool.Decides.{nat_tests}
 use Rattle.mc_mol.specs.declared.parts.Bond.{Bond}
-use Rattle.mc_mol.specs.Molecule.{Molecule, joins, are_joined}
+use Rattle.mc_mol.specs.Molecule.{Molecule, are_joined}
 use Rattle.mc_mol.specs.WellFormed.{IsBond, IsMolecule}
 use Rattle.mc_mol.proofs.Lists.{All-head, All-tail}
 

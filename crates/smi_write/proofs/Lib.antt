@@ -7,6 +7,7 @@ pub mod Plain
 pub mod Writing
 pub mod Tree
 pub mod TreeOrder
+pub mod BuiltFronts
 pub mod Spelling
 pub mod Counts
 pub mod BuiltTexts

@@ -1,5 +1,5 @@
 -- The bytes of one piece.
-use Rattle.std.proofs.Common.{◌≡◌, ℕ, ◌<◌, List, [], ◌∷◌, ◌++◌, length, get_or, Bool, true, false, Option, Some, refl, ap, sym, ◌∙◌}
+use Rattle.std.proofs.Common.{◌≡◌, ℕ, List, [], ◌∷◌, ◌++◌, Bool, true, false, Option, Some, ap, sym, ◌∙◌}
 use Rattle.std.specs.Prelude.{if◌then◌else◌, flat_map, slice_get}
 use Rattle.std.proofs.lemmas.List.{append-nil, append_assoc}
 use Rattle.mc_elements.specs.Elements.{symbol}

@@ -1,5 +1,5 @@
 -- Tokens of which only atoms and branches are: what texts of today have.
-use Rattle.std.proofs.Common.{◌≡◌, ◌∙◌, List, [], ◌∷◌, Bool, false, refl, ap, ℕ, Option}
+use Rattle.std.proofs.Common.{◌≡◌, ◌∙◌, List, [], ◌∷◌, Bool, false, refl, ap}
 use Rattle.smi_graph.specs.declared.role.Role.{Role}
 use Rattle.smi_graph.specs.declared.role.Role.TheVariants.{Atom, Bond, Ring, Enter, Leave, Dot}
 use Rattle.smi_graph.specs.Order.{latest}

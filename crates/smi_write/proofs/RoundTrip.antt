@@ -12,11 +12,10 @@ use Rattle.mc_base.specs.declared.kind.Kind.{Kind}
 use Rattle.mc_base.specs.declared.kind.Kind.TheVariants.{NotBuilt, BadOrder, ParenOpen, LimitValence}
 use Rattle.mc_elements.specs.declared.element.Element.{Element}
 use Rattle.mc_elements.specs.declared.element.Element.TheVariants.{C}
-use Rattle.mc_mol.specs.declared.parts.Atom as atom
 use Rattle.mc_mol.specs.declared.parts.Bond as bond
 use Rattle.mc_mol.specs.declared.parts.Slot.{Slot}
 use Rattle.mc_mol.specs.declared.parts.Sides.{Sides}
-use Rattle.mc_mol.specs.Molecule.{Molecule, bond_sum, joins}
+use Rattle.mc_mol.specs.Molecule.{Molecule, bond_sum}
 use Rattle.mc_mol.specs.Same.{Same, entry, SameCentre, SameSides}
 use Rattle.smi_lex.specs.declared.token.Token.{Token}
 use Rattle.smi_lex.specs.declared.token.TokenKind.{TokenKind}
@@ -25,22 +24,22 @@ use Rattle.smi_lex.specs.Tokens.{tokens}
 use Rattle.smi_graph.specs.declared.role.Role.{Role}
 use Rattle.smi_graph.specs.declared.role.Role.TheVariants as doing
 use Rattle.smi_graph.specs.Roles.{role_of, roles, elements}
-use Rattle.smi_graph.specs.Order.{AllPlaced, AllClosed, misplaced_at, unclosed_at}
+use Rattle.smi_graph.specs.Order.{AllPlaced, AllClosed, misplaced_at}
 use Rattle.smi_graph.specs.Bonds.{atom_count, bonds_of}
-use Rattle.smi_graph.specs.Rules.{BreaksAt, is_built, is_built_byte, byte_place, roles_in}
+use Rattle.smi_graph.specs.Rules.{is_built, is_built_byte, byte_place, roles_in}
 use Rattle.smi_graph.proofs.Rising.{count_elements}
 use Rattle.smi_mean.specs.declared.step.Step.{Step}
-use Rattle.smi_mean.specs.Meaning.{bare_atom, atoms_with, nones, without_stereo, meaning_of, meaning}
+use Rattle.smi_mean.specs.Meaning.{bare_atom, atoms_with, nones, meaning_of, meaning}
 use Rattle.smi_mean.specs.Rules.{StandsAt, SmilesStands, overvalent_at}
 use Rattle.smi_mean.specs.Written.{order, written_text, written_order, tokens_of, spelling, atom_token, token_of}
 use Rattle.smi_write.specs.ReadBack.{IsReadBack}
 use Rattle.smi_write.proofs.Plain.{ArePlain}
 use Rattle.smi_write.proofs.Shape.{IsNested, has, test_same}
-use Rattle.smi_write.proofs.Writing.{Valid, bonds_from, tree_roles, role_if_not, whole_tree}
-use Rattle.smi_write.proofs.Tree.{Tree, tree_of, parents_of}
+use Rattle.smi_write.proofs.Writing.{bonds_from, tree_roles, role_if_not, whole_tree}
+use Rattle.smi_write.proofs.Tree.{tree_of, parents_of}
 use Rattle.smi_write.proofs.TreeOrder.{TreeOf, order_is, steps_from, root_step, not_true, and_true}
-use Rattle.smi_write.proofs.Spelling.{AllBuilt, AreWritten, placed_at, tree_tokens, written_tree, tokens_written, roles_placed, elements_placed, elements_in, tree_roles_are, tree_elements_are, bytes_spelled, length_spelled, tree_tokens_are, valid_of, placed_of}
-use Rattle.smi_write.proofs.Counts.{closed_of, length_counts, enters_leaves, leaves_whole, leaves, jumps_of, jumps}
+use Rattle.smi_write.proofs.Spelling.{AllBuilt, AreWritten, placed_at, tree_tokens, written_tree, tokens_written, roles_placed, elements_placed, tree_roles_are, tree_elements_are, bytes_spelled, length_spelled, tree_tokens_are, valid_of, placed_of}
+use Rattle.smi_write.proofs.Counts.{closed_of, length_counts, enters_leaves, leaves_whole, jumps_of, jumps}
 use Rattle.smi_write.proofs.BuiltTexts.{built_text}
 
 not_false : (b : Bool) → (b ≡ false → ⊥) → b ≡ true

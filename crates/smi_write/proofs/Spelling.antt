@@ -1,5 +1,5 @@
 -- The text of tokens is read as these tokens, and whole lists of tokens against the tokens before each place.
-use Rattle.std.proofs.Common.{◌≡◌, ℕ, zero, suc, ◌+◌, ◌-◌, ◌≤◌, ◌<◌, List, [], ◌∷◌, ◌++◌, length, get_or, map, reverse, Bool, true, false, Option, Some, None, refl, ap, sym, ◌∙◌, subst, inl, inr, arith}
+use Rattle.std.proofs.Common.{◌≡◌, ℕ, zero, suc, ◌+◌, ◌-◌, ◌≤◌, ◌<◌, List, [], ◌∷◌, ◌++◌, length, get_or, map, reverse, Bool, true, false, Some, None, refl, ap, sym, ◌∙◌, subst, inl, inr, arith}
 use Rattle.std.specs.Prelude.{◌==◌, ◌||◌, not, flat_map}
 use Rattle.std.specs.List.{list_all, list_any}
 use Rattle.std.proofs.lemmas.Bool.{cases_lt, cases_eq}
@@ -8,7 +8,7 @@ use Rattle.mc_elements.specs.declared.element.Element.TheVariants.{C, N, O}
 use Rattle.mc_mol.specs.Molecule.{Molecule}
 use Rattle.smi_lex.specs.declared.token.Token.{Token}
 use Rattle.smi_lex.specs.declared.token.TokenKind.{TokenKind}
-use Rattle.smi_lex.specs.declared.token.TokenKind.TheVariants.{Bare, Bracket, Bond, Ring, Enter, Leave, Dot}
+use Rattle.smi_lex.specs.declared.token.TokenKind.TheVariants.{Bare, Enter, Leave}
 use Rattle.smi_lex.specs.Tokens.{tokens, tokens_from}
 use Rattle.smi_graph.specs.declared.role.Role.{Role}
 use Rattle.smi_graph.specs.declared.role.Role.TheVariants as doing
@@ -16,7 +16,8 @@ use Rattle.smi_graph.specs.Roles.{role_of, roles, element_of, elements}
 use Rattle.smi_graph.specs.Order.{latest, may_follow, is_misplaced, misplaced_at, tokens_before, AllPlaced}
 use Rattle.smi_graph.specs.Rules.{is_built_byte}
 use Rattle.smi_graph.proofs.Prefixes.{tokens_before_more, misplaced_here, misplaced_end, all_before}
-use Rattle.smi_mean.specs.Written.{spelling, if_not, tokens_of, atom_token, is_option, has_no_child}
+use Rattle.smi_mean.specs.Written.{spelling, if_not, tokens_of, atom_token, is_option}
+use Rattle.smi_write.proofs.BuiltFronts.{carbon, one_byte}
 use Rattle.smi_write.proofs.Shape.{has, test_same, test_other}
 use Rattle.smi_write.proofs.Writing.{Valid, tree_roles, role_if_not}
 use Rattle.smi_write.proofs.TreeOrder.{steps_from}
@@ -42,15 +43,29 @@ abbrev pub placed_at : ℕ → List TokenKind → List Token
 placed_at at [] = []
 placed_at at (k ∷ ks) = record { kind = k; span = record { from = at; to = at + 1 } } ∷ placed_at (at + 1) ks
 
-tokens_spelled : (ks : List TokenKind) (at : ℕ) → AreWritten ks → tokens_from 0 at (flat_map spelling ks) ≡ placed_at at ks
+onto_token : (at : ℕ) (k : TokenKind) {xs ys : List Token} → xs ≡ ys → record { kind = k; span = record { from = at; to = at + 1 } } ∷ xs ≡ record { kind = k; span = record { from = at; to = at + 1 } } ∷ ys
+onto_token at k h = ap (λ (x : List Token). record { kind = k; span = record { from = at; to = at + 1 } } ∷ x) h
+
+pub bytes_spelled : (ks : List TokenKind) → AreWritten ks → list_all is_built_byte (flat_map spelling ks) ≡ true
+bytes_spelled [] w = refl
+bytes_spelled (Bare e true ∷ ks) w = absurd w
+bytes_spelled (Bare C false ∷ ks) w = bytes_spelled ks w.1
+bytes_spelled (Bare N false ∷ ks) w = bytes_spelled ks w.1
+bytes_spelled (Bare O false ∷ ks) w = bytes_spelled ks w.1
+bytes_spelled (Bare e false ∷ ks) w = absurd w.0
+bytes_spelled (Enter ∷ ks) w = bytes_spelled ks w
+bytes_spelled (Leave ∷ ks) w = bytes_spelled ks w
+bytes_spelled (k ∷ ks) w = absurd w
+
+tokens_spelled : (ks : List TokenKind) (at : ℕ) → AreWritten ks → tokens_from at 0 (flat_map spelling ks) ≡ placed_at at ks
 tokens_spelled [] at w = refl
 tokens_spelled (Bare e true ∷ ks) at w = absurd w
-tokens_spelled (Bare C false ∷ ks) at w = ap (λ (x : List Token). record { kind = Bare C false; span = record { from = at; to = at + 1 } } ∷ x) (tokens_spelled ks (at + 1) w.1)
-tokens_spelled (Bare N false ∷ ks) at w = ap (λ (x : List Token). record { kind = Bare N false; span = record { from = at; to = at + 1 } } ∷ x) (tokens_spelled ks (at + 1) w.1)
-tokens_spelled (Bare O false ∷ ks) at w = ap (λ (x : List Token). record { kind = Bare O false; span = record { from = at; to = at + 1 } } ∷ x) (tokens_spelled ks (at + 1) w.1)
+tokens_spelled (Bare C false ∷ ks) at w = one_byte at 67 (flat_map spelling ks) (Bare C false) (carbon (flat_map spelling ks) (bytes_spelled ks w.1)) ∙ onto_token at (Bare C false) (tokens_spelled ks (at + 1) w.1)
+tokens_spelled (Bare N false ∷ ks) at w = one_byte at 78 (flat_map spelling ks) (Bare N false) refl ∙ onto_token at (Bare N false) (tokens_spelled ks (at + 1) w.1)
+tokens_spelled (Bare O false ∷ ks) at w = one_byte at 79 (flat_map spelling ks) (Bare O false) refl ∙ onto_token at (Bare O false) (tokens_spelled ks (at + 1) w.1)
 tokens_spelled (Bare e false ∷ ks) at w = absurd w.0
-tokens_spelled (Enter ∷ ks) at w = ap (λ (x : List Token). record { kind = Enter; span = record { from = at; to = at + 1 } } ∷ x) (tokens_spelled ks (at + 1) w)
-tokens_spelled (Leave ∷ ks) at w = ap (λ (x : List Token). record { kind = Leave; span = record { from = at; to = at + 1 } } ∷ x) (tokens_spelled ks (at + 1) w)
+tokens_spelled (Enter ∷ ks) at w = one_byte at 40 (flat_map spelling ks) Enter refl ∙ onto_token at Enter (tokens_spelled ks (at + 1) w)
+tokens_spelled (Leave ∷ ks) at w = one_byte at 41 (flat_map spelling ks) Leave refl ∙ onto_token at Leave (tokens_spelled ks (at + 1) w)
 tokens_spelled (k ∷ ks) at w = absurd w
 
 pub tokens_written : (ks : List TokenKind) → AreWritten ks → tokens (flat_map spelling ks) ≡ placed_at 0 ks
@@ -67,17 +82,6 @@ elements_in (k ∷ ks) = element_of k ++ elements_in ks
 pub elements_placed : (ks : List TokenKind) (at : ℕ) → elements (placed_at at ks) ≡ elements_in ks
 elements_placed [] at = refl
 elements_placed (k ∷ ks) at = ap (λ (x : List Element). element_of k ++ x) (elements_placed ks (at + 1))
-
-pub bytes_spelled : (ks : List TokenKind) → AreWritten ks → list_all is_built_byte (flat_map spelling ks) ≡ true
-bytes_spelled [] w = refl
-bytes_spelled (Bare e true ∷ ks) w = absurd w
-bytes_spelled (Bare C false ∷ ks) w = bytes_spelled ks w.1
-bytes_spelled (Bare N false ∷ ks) w = bytes_spelled ks w.1
-bytes_spelled (Bare O false ∷ ks) w = bytes_spelled ks w.1
-bytes_spelled (Bare e false ∷ ks) w = absurd w.0
-bytes_spelled (Enter ∷ ks) w = bytes_spelled ks w
-bytes_spelled (Leave ∷ ks) w = bytes_spelled ks w
-bytes_spelled (k ∷ ks) w = absurd w
 
 pub length_spelled : (ks : List TokenKind) → AreWritten ks → length (flat_map spelling ks) ≡ length ks
 length_spelled [] w = refl

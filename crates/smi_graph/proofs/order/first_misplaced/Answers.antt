@@ -1,5 +1,5 @@
-use Rattle.std.proofs.Common.{arith, ◌≡◌, ◌+◌, ℕ, ◌∷◌, List, length, below_more, subst, sym, ap, ◌∙◌}
-use Rattle.std.specs.Prelude.{None, not}
+use Rattle.std.proofs.Common.{arith, ◌≡◌, ◌+◌, ℕ, List, length, below_more, subst, sym, ap, ◌∙◌}
+use Rattle.std.specs.Prelude.{None}
 use Rattle.smi_graph.specs.declared.role.Role.{Role}
 use Rattle.smi_graph.specs.Order.{tokens_before, misplaced_at, is_misplaced}
 use Rattle.smi_graph.specs.Reading.{IsBehind}

@@ -1,13 +1,11 @@
-use Rattle.std.proofs.Common.{arith, ◌≡◌, ◌∙◌, ℕ, List, Bool, ap, sym, subst, length, reverse}
-use Rattle.std.proofs.lemmas.Grind.{common_steps}
+use Rattle.std.proofs.Common.{◌≡◌, ◌∙◌, List, ap, reverse}
 use Rattle.smi_graph.specs.declared.role.Role.{Role}
 use Rattle.smi_lex.specs.declared.token.Token.{Token}
 use Rattle.smi_graph.specs.Roles.{roles, elements}
 use Rattle.smi_graph.specs.Bonds.{bonds_of}
-use Rattle.smi_graph.specs.Order.{misplaced_at, unclosed_at, AllPlaced, AllClosed}
 use Rattle.smi_graph.specs.Rules.{roles_in}
 use Rattle.smi_graph.proofs.Rising.{skeleton_joins_later}
-use Rattle.smi_graph.proofs.Refusals.{at, bad_order, paren_open}
+use Rattle.smi_graph.proofs.Refusals.{bad_order, paren_open}
 use Rattle.smi_graph.proofs.read.read_skeleton.Goals as goal
 
 pub returns-in-Some-clause-err : goal.returns-in-Some-clause-err

@@ -1,4 +1,3 @@
-use Rattle.std.proofs.Common.{arith}
 use Rattle.smi_mean.proofs.Building.{one_more_atom}
 use Rattle.smi_mean.proofs.molecule.add_atoms.Goals as goal
 

@@ -1,10 +1,8 @@
-use Rattle.std.proofs.Common.{arith, ◌≡◌, ◌∙◌, ℕ, List, ap, sym, subst, length}
-use Rattle.mc_base.specs.Shown.{IsFirst}
+use Rattle.std.proofs.Common.{◌≡◌, ◌∙◌, List, ap, sym, subst}
 use Rattle.mc_mol.specs.declared.parts.Atom.{Atom}
 use Rattle.mc_mol.specs.Molecule.{Molecule}
-use Rattle.smi_graph.specs.Stops.{IsNoBarrier}
 use Rattle.smi_mean.specs.Meaning.{without_stereo, meaning}
-use Rattle.smi_mean.specs.Rules.{StandsAt, SmilesStands}
+use Rattle.smi_mean.specs.Rules.{SmilesStands}
 use Rattle.smi_mean.proofs.Refusals.{refused_of_broken, shows_limit_valence, stands_of, meaning_is}
 use Rattle.smi_mean.proofs.read.read_smiles.Goals as goal
 

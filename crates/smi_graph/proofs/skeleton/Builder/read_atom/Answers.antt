@@ -1,6 +1,6 @@
 use Rattle.std.proofs.Common.{◌≡◌, ◌∙◌, ℕ, ◌+◌, ◌++◌, List, Bool, Option, Some, ap, sym, refl}
 use Rattle.mc_mol.specs.declared.parts.Bond.{Bond}
-use Rattle.smi_graph.specs.Bonds.{bond_to, bonds_of, predecessor, atom_count}
+use Rattle.smi_graph.specs.Bonds.{bond_to, predecessor, atom_count}
 use Rattle.smi_graph.specs.Reading.{unless_dot, open_once_closed}
 use Rattle.smi_graph.proofs.OpenLaw.{predecessor_is}
 use Rattle.smi_graph.proofs.skeleton.Builder.read_atom.Goals as goal
