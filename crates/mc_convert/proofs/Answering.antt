@@ -1,17 +1,15 @@
 -- The two cases of an answer.
-use Rattle.std.proofs.Common.{arith, ◌≡◌, ◌∙◌, ℕ, suc, ◌+◌, ◌-◌, ◌<◌, List, [], ◌∷◌, ◌++◌, length, take, get_or, Bool, true, false, refl, sym, ap, subst, inl, inr}
-use Rattle.std.specs.Prelude.{◌⊎◌, ◌↔◌, IsTrue, if◌then◌else◌, ◌==◌}
+use Rattle.std.proofs.Common.{arith, ◌≡◌, ◌∙◌, ℕ, ◌<◌, List, [], ◌∷◌, ◌++◌, length, Bool, true, false, refl, sym, ap, inl, inr}
+use Rattle.std.specs.Prelude.{◌↔◌, IsTrue}
 use Rattle.std.proofs.lemmas.Bool.{false≢true}
-use Rattle.std.proofs.lemmas.Bool.Decides.{nat_tests}
 use Rattle.mc_base.specs.declared.refusal.Refusal.{Refusal}
 use Rattle.mc_mol.specs.Molecule.{Molecule}
-use Rattle.mc_report.specs.Report.{ok_line, refused_line}
-use Rattle.smi_mean.specs.Rules.{SmilesStands, StandsAt}
-use Rattle.smi_mean.specs.Written.{written_text, written_order}
-use Rattle.smi_write.specs.ReadBack.{IsReadBack}
+use Rattle.mc_report.specs.Report.{refused_line}
+use Rattle.smi_mean.specs.Rules.{SmilesStands}
+use Rattle.smi_mean.specs.Written.{written_text}
 use Rattle.mc_convert.specs.declared.answer.Answer.{Answer}
 use Rattle.mc_convert.specs.Records.{lf, without_last_lf, unless_empty, records, line}
-use Rattle.mc_convert.specs.Answers.{Reply, Shows, IsWritten, IsRefusedFor, IsAnswer}
+use Rattle.mc_convert.specs.Answers.{Shows, IsAnswer}
 use Rattle.mc_convert.specs.Accepted.{IsAccepted}
 use Rattle.mc_convert.specs.Runs.{IsShown}
 

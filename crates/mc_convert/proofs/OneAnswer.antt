@@ -1,6 +1,5 @@
 -- A record has one answer.
-use Rattle.std.proofs.Common.{arith, ◌≡◌, ◌∙◌, ℕ, ◌+◌, ◌<◌, ◌≤◌, List, [], ◌∷◌, ◌++◌, length, refl, sym, ap, subst, inl, inr}
-use Rattle.std.specs.Prelude.{◌⊎◌}
+use Rattle.std.proofs.Common.{arith, ◌≡◌, ◌∙◌, ℕ, ◌+◌, ◌<◌, List, [], ◌∷◌, length, sym, ap, subst, inl, inr}
 use Rattle.std.proofs.lemmas.Bool.{cases_lt}
 use Rattle.std.proofs.lemmas.List.{append-nil}
 use Rattle.mc_base.specs.declared.ids.AtomId.{AtomId}
@@ -8,7 +7,7 @@ use Rattle.mc_base.specs.declared.kind.Kind.{Kind}
 use Rattle.mc_base.specs.declared.kind.Kind.TheVariants.{NoPlacement}
 use Rattle.mc_base.specs.declared.refusal.Refusal.{Refusal}
 use Rattle.mc_base.specs.Kinds.{number}
-use Rattle.mc_base.specs.Shown.{IsFirst, HasReason}
+use Rattle.mc_base.specs.Shown.{HasReason}
 use Rattle.mc_base.proofs.AllKinds.{same_number}
 use Rattle.mc_mol.specs.Molecule.{Molecule}
 use Rattle.mc_report.specs.Report.{ok_line, refused_line}
@@ -16,7 +15,7 @@ use Rattle.smi_graph.specs.Stops.{IsNoBarrier}
 use Rattle.smi_mean.specs.Rules.{StandsAt}
 use Rattle.smi_mean.specs.Written.{written_text, written_order}
 use Rattle.mc_convert.specs.Records.{line}
-use Rattle.mc_convert.specs.Answers.{Reply, Shows, IsWritten, IsRefusedFor, IsAnswer, Answers, outs, reports}
+use Rattle.mc_convert.specs.Answers.{Reply, Shows, IsAnswer, Answers, outs, reports}
 
 no_barrier : (kind : Kind) (barrier : List AtomId) (odd : ℕ) → HasReason IsNoBarrier kind barrier odd → (barrier ≡ []) × (odd ≡ 0)
 no_barrier NoPlacement barrier odd h = absurd h

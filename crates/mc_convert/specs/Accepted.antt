@@ -1,6 +1,5 @@
 -- The answer to a record that is accepted.
 use Rattle.std.specs.Prelude.{◌≡◌, ℕ, ◌<◌, List, false, length}
-use Rattle.mc_base.specs.declared.ids.AtomId.{AtomId}
 use Rattle.mc_mol.specs.Molecule.{Molecule}
 use Rattle.mc_report.specs.Report.{ok_line}
 use Rattle.smi_mean.specs.Rules.{SmilesStands}

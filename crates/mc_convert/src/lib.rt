@@ -2,12 +2,12 @@
 #![tactic(auto)]
 
 mod answer;
-mod run;
+mod command;
 mod status;
 mod words;
 
 pub use answer::{Answer, answer_record};
-pub use run::run;
+pub use command::run;
 pub use status::Status;
 
 #[cfg(test)]

@@ -1,4 +1,4 @@
-use Rattle.mc_convert.proofs.Answering.{is_written, none_shown, is_refused, is_shown}
+use Rattle.mc_convert.proofs.Answering.{is_written}
 use Rattle.mc_convert.proofs.answer.answer_record.Goals as goal
 
 pub returns-in_ok-answer-in-Ok-clause-answer : goal.returns-in_ok-answer-in-Ok-clause-answer

@@ -1,6 +1,6 @@
-use Rattle.std.proofs.Common.{arith, ◌≡◌, ◌∙◌, List, ℕ, ap, Err}
+use Rattle.std.proofs.Common.{◌∙◌, ap, Err}
 use Rattle.mc_convert.proofs.Running.{none_shown, not_all_held}
-use Rattle.mc_convert.proofs.run.run.Goals as goal
+use Rattle.mc_convert.proofs.command.run.Goals as goal
 
 pub returns-in-Ok-false-clause-done : goal.returns-in-Ok-false-clause-done
 returns-in-Ok-false-clause-done g c = λ _.

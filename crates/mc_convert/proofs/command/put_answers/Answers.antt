@@ -3,7 +3,7 @@ use Rattle.std.proofs.lemmas.Grind.{common_steps}
 use Rattle.mc_convert.specs.Records.{without_last_lf, records}
 use Rattle.mc_convert.specs.Runs.{SomeShown}
 use Rattle.mc_convert.proofs.Running.{records_one}
-use Rattle.mc_convert.proofs.run.put_answers.Goals as goal
+use Rattle.mc_convert.proofs.command.put_answers.Goals as goal
 
 pub returns-in-Ok-clause-refused : goal.returns-in-Ok-clause-refused
 returns-in-Ok-clause-refused g c =

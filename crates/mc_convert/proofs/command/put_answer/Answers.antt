@@ -1,7 +1,7 @@
-use Rattle.std.proofs.Common.{arith, ◌≡◌, List, ℕ}
+use Rattle.std.proofs.Common.{arith}
 use Rattle.mc_convert.specs.Answers.{Reply}
 use Rattle.mc_convert.proofs.Running.{nothing_held, part_of_out, part_of_report, all_of_both, less_by_out, less_by_report}
-use Rattle.mc_convert.proofs.run.put_answer.Goals as goal
+use Rattle.mc_convert.proofs.command.put_answer.Goals as goal
 
 pub returns-in-Err-clause-some : goal.returns-in-Err-clause-some
 returns-in-Err-clause-some g c = nothing_held _ _ _
