@@ -94,27 +94,37 @@ const TWELVE_OUT: &[u8] = b"CC(N)C(C)CNO\n";
 
 const TWELVE_REPORT: &[u8] = b"1 ok map=1,2,3,4,5,6,7,8 idle=0 ring=0 data=0\n";
 
-#[test]
-fn words_outside_the_table_do_nothing(rt: HostRuntime) -> Result<(), Fail> {
+/// Runs these words, which aren't in the table, over an input of one atom, and looks that nothing is read or written.
+fn are_no_words(rt: &(impl Abort + AllocGlobal), texts: &[&str]) -> Result<(), Fail> {
     let alloc = rt.alloc();
+    let words = words_of(alloc, texts)?;
     let mut source = source_of::<1000>(alloc, b"C", 7, Vec::new(alloc))?;
     let mut sink = MemorySink::new(alloc, 100, 5, Vec::new(alloc))?;
-    for words in [
-        ["convert", "--from", "smi", "", ""].as_slice(),
-        ["convert", "--from", "smi"].as_slice(),
-        ["convert", "--from", "smi", "--to", "sd"].as_slice(),
-        [].as_slice(),
-    ] {
-        let words = words_of(alloc, words)?;
-        assert!(rt; run(alloc, &words, &mut source, &mut sink) == Status::Usage);
-    }
-    assert_eq!(rt; sink.bytes(0), b"".as_slice());
-    assert_eq!(rt; sink.bytes(1), b"".as_slice());
-    let words = words_of(alloc, &CONVERT)?;
-    assert!(rt; run(alloc, &words, &mut source, &mut sink) == Status::Done);
+    assert!(rt; run(alloc, &words, &mut source, &mut sink) == Status::Usage);
+    assert!(rt; sink.bytes(0).is_empty());
+    assert!(rt; sink.bytes(1).is_empty());
+    let right = words_of(alloc, &CONVERT)?;
+    assert!(rt; run(alloc, &right, &mut source, &mut sink) == Status::Done);
     assert_eq!(rt; sink.bytes(0), b"C\n".as_slice());
-    let mut long = source_of::<4>(alloc, b"CCCCC", 7, Vec::new(alloc))?;
-    assert!(rt; run(alloc, &words, &mut long, &mut sink) == Status::InputLimit);
+    Ok(())
+}
+
+#[test]
+fn words_outside_the_table_do_nothing(rt: HostRuntime) -> Result<(), Fail> {
+    are_no_words(&rt, &["convert", "--from", "smi"])?;
+    are_no_words(&rt, &["convert", "--from", "smi", "--to", "sd"])?;
+    are_no_words(&rt, &["convert", "--from", "smi", "--to", "smi", "file"])?;
+    are_no_words(&rt, &["--help"])
+}
+
+#[test]
+fn an_input_stops_at_the_limit(rt: HostRuntime) -> Result<(), Fail> {
+    let alloc = rt.alloc();
+    let words = words_of(alloc, &CONVERT)?;
+    let mut source = source_of::<4>(alloc, b"CCCCC", 7, Vec::new(alloc))?;
+    let mut sink = MemorySink::new(alloc, 100, 5, Vec::new(alloc))?;
+    assert!(rt; run(alloc, &words, &mut source, &mut sink) == Status::InputLimit);
+    assert!(rt; sink.bytes(0).is_empty());
     Ok(())
 }
 
