@@ -11,11 +11,10 @@ use Rattle.mc_base.specs.Shown.{HasReason}
 use Rattle.mc_base.proofs.AllKinds.{same_number}
 use Rattle.mc_mol.specs.Molecule.{Molecule}
 use Rattle.mc_report.specs.Report.{ok_line, refused_line}
-use Rattle.smi_graph.specs.Stops.{IsNoBarrier}
-use Rattle.smi_mean.specs.Rules.{StandsAt}
-use Rattle.smi_mean.specs.Written.{written_text, written_order}
+use Rattle.smi_graph.specs.Skeletons.{IsNoBarrier}
+use Rattle.smi_mean.specs.Written.{written_order}
 use Rattle.mc_convert.specs.Records.{line}
-use Rattle.mc_convert.specs.Answers.{Reply, Shows, IsAnswer, Answers, outs, reports}
+use Rattle.mc_convert.specs.Answers.{Reply, StandsIn, written_line, Shows, IsAnswer, Answers, outs, reports}
 
 no_barrier : (kind : Kind) (barrier : List AtomId) (odd : ℕ) → HasReason IsNoBarrier kind barrier odd → (barrier ≡ []) × (odd ≡ 0)
 no_barrier NoPlacement barrier odd h = absurd h
@@ -34,8 +33,8 @@ one_refusal text r s f g =
         | inr same ↦ same_number r.kind s.kind (omega arith)
       ]
     ] in
-    let low = f.least s.place (subst (λ (k : Kind). StandsAt text k s.place) (sym kind) g.stands) in
-    let high = g.least r.place (subst (λ (k : Kind). StandsAt text k r.place) kind f.stands) in
+    let low = f.least s.place (subst (λ (k : Kind). StandsIn text k s.place) (sym kind) g.stands) in
+    let high = g.least r.place (subst (λ (k : Kind). StandsIn text k r.place) kind f.stands) in
     let place : r.place ≡ s.place = omega arith in
     let a = no_barrier r.kind r.barrier r.odd f.reason in
     let b = no_barrier s.kind s.barrier s.odd g.reason in
@@ -48,7 +47,7 @@ one_refusal text r s f g =
 pub same_lengths : (text : List ℕ) (r s : Reply) → IsAnswer 1 text r → IsAnswer 1 text s → (length r.out ≡ length s.out) × (length r.report ≡ length s.report)
 same_lengths text r s (inl a) (inl b) =
     let m : a.input ≡ b.input = a.stands.molecule ∙ sym b.stands.molecule in (
-      ap (λ (x : List ℕ). length x) a.form ∙ ap (λ (x : Molecule). length (line (written_text x))) m ∙ sym (ap (λ (x : List ℕ). length x) b.form),
+      ap (λ (x : List ℕ). length x) a.form ∙ ap (λ (x : Molecule). length (line (written_line x text))) m ∙ sym (ap (λ (x : List ℕ). length x) b.form),
       ap (λ (x : List ℕ). length x) a.report ∙ ap (λ (x : Molecule). length (ok_line 1 (written_order x) 0 0 0)) m ∙ sym (ap (λ (x : List ℕ). length x) b.report),
     )
 same_lengths text r s (inl a) (inr b) = absurd (a.stands.accepted b.refusal.kind b.refusal.place b.shows.stands)

@@ -1,36 +1,55 @@
 -- What a record is answered, and what a run writes (this project's own).
-use Rattle.std.specs.Prelude.{◌≡◌, ℕ, ◌+◌, ◌<◌, ◌⊎◌, List, [], ◌∷◌, ◌++◌, take, flat_map, length}
+use Rattle.std.specs.Prelude.{◌≡◌, ℕ, ◌+◌, ◌<◌, ◌⊎◌, false, List, [], ◌∷◌, ◌++◌, take, flat_map, length}
+use Rattle.mc_base.specs.declared.kind.Kind.{Kind}
+use Rattle.mc_base.specs.declared.kind.Kind.TheVariants.{NotBuilt}
 use Rattle.mc_base.specs.declared.refusal.Refusal.{Refusal}
 use Rattle.mc_base.specs.Shown.{IsFirst}
 use Rattle.mc_mol.specs.Molecule.{Molecule}
 use Rattle.mc_mol.specs.Same.{Same}
 use Rattle.mc_report.specs.Report.{ok_line, refused_line}
-use Rattle.smi_graph.specs.Stops.{IsNoBarrier}
+use Rattle.smi_graph.specs.Skeletons.{IsNoBarrier}
+use Rattle.smi_mean.specs.Lines.{text_of, name_of}
+use Rattle.smi_mean.specs.Meaning.{meaning}
 use Rattle.smi_mean.specs.Rules.{StandsAt, SmilesStands}
 use Rattle.smi_mean.specs.Written.{written_text, written_order}
-use Rattle.mc_convert.specs.Records.{records, line}
+use Rattle.mc_convert.specs.Records.{is_line, records, with_name, line}
 
 -- what is written for a record: at output 0, and at output 1
 pub record Reply : Type 0 where
   pub out : List ℕ
   pub report : List ℕ
 
--- Record k is written: in the one form of a molecule that it stands for. What is written is one record and stands for
--- exactly one molecule, which is the same under the map that the report line has.
-pub record IsWritten (k : ℕ) (text : List ℕ) (reply : Reply) : Type 0 where
+-- A kind stands at a place of a record. Records of more than one line, and too long ones, aren't read today.
+abbrev pub StandsIn : List ℕ → Kind → ℕ → Type 0
+StandsIn bytes NotBuilt place = (place ≡ 1) × ((is_line bytes ≡ false) ⊎ StandsAt (text_of bytes) NotBuilt 1)
+StandsIn bytes kind place = StandsAt (text_of bytes) kind place
+
+-- a record stands for a molecule: no kind stands in it, and the molecule is that of its text
+pub record RecordStands (bytes : List ℕ) (m : Molecule) : Type 0 where
+  pub accepted : (kind : Kind) (place : ℕ) → StandsIn bytes kind place → ⊥
+  pub molecule : m ≡ meaning (text_of bytes)
+
+-- the one form of a molecule, with the name of a record
+abbrev pub written_line : Molecule → List ℕ → List ℕ
+written_line m bytes = with_name (written_text m) (name_of bytes)
+
+-- Record k is written: in the one form of a molecule that it stands for, with its name. What is written is one record
+-- and stands for exactly one molecule, which is the same under the map that the report line has.
+pub record IsWritten (k : ℕ) (bytes : List ℕ) (reply : Reply) : Type 0 where
   pub input : Molecule
   pub output : Molecule
-  pub stands : SmilesStands text input
-  pub form : reply.out ≡ line (written_text input)
-  pub one_record : records reply.out ≡ written_text input ∷ []
-  pub reads : SmilesStands (written_text input) output
-  pub only : (other : Molecule) → SmilesStands (written_text input) other → other ≡ output
+  pub stands : RecordStands bytes input
+  pub form : reply.out ≡ line (written_line input bytes)
+  pub one_record : records reply.out ≡ written_line input bytes ∷ []
+  pub name : name_of (written_line input bytes) ≡ name_of bytes
+  pub reads : SmilesStands (text_of (written_line input bytes)) output
+  pub only : (other : Molecule) → SmilesStands (text_of (written_line input bytes)) other → other ≡ output
   pub same : Same input output (written_order input)
   pub report : reply.report ≡ ok_line k (written_order input) 0 0 0
 
--- a text shows a refusal
+-- a record shows a refusal
 abbrev pub Shows : List ℕ → Refusal → Type 0
-Shows text refusal = IsFirst (StandsAt text) IsNoBarrier refusal
+Shows bytes refusal = IsFirst (StandsIn bytes) IsNoBarrier refusal
 
 -- Record k is refused, for a cause that it shows.
 pub record IsRefusedFor (k : ℕ) (text : List ℕ) (reply : Reply) : Type 0 where

@@ -1,11 +1,13 @@
-ghost use Rattle.std.specs.Prelude.{◌≡◌, ◌<◌, ◌≤◌, ◌↔◌, ◌++◌, ◌∷◌, [], IfOk, IsTrue, length, true, false};
-ghost use Rattle.mc_report.specs.Report.{ok_line, refused_line};
-ghost use Rattle.mc_convert.specs.Records.{line};
+ghost use Rattle.std.specs.Prelude.{◌≡◌, ◌<◌, ◌≤◌, ◌↔◌, [], IfOk, OnOk, IsTrue, length, not, true};
+ghost use Rattle.mc_report.specs.Report.{refused_line};
+ghost use Rattle.std.specs.List.{list_all};
+ghost use Rattle.smi_mean.specs.Sound.{IsSound};
+ghost use Rattle.mc_convert.specs.Records.{ends_line, is_line, with_name};
 ghost use Rattle.mc_convert.specs.Answers.{IsAnswer};
 ghost use Rattle.mc_convert.specs.Accepted.{IsAccepted};
 ghost use Rattle.mc_convert.specs.Runs.{IsShown};
 
-use mc_base::{NoMemory, Refusal, Stop, Text, Written};
+use mc_base::{Kind, NoMemory, Refusal, Stop, Text, Written};
 use mc_mol::Mol;
 use mc_report::{put_ok, put_refused};
 use smi_mean::read_smiles;
@@ -21,14 +23,27 @@ pub struct Answer {
     pub refused: bool,
 }
 
+/// Appends a name behind a text. A blank parts them, and stands also where both are empty.
+fn push_name(out: &mut Text, name: &[u8]) -> Result<(), NoMemory>
+    ensures { OnOk result (out.new ≡ with_name out.old name.now) }
+{
+    if out.len() == 0 || name.len() > 0 {
+        out.push(b' ')?;
+        out.extend(name)?;
+    }
+    Ok(())
+}
+
 /// The answer to record k, from 1, where it is accepted.
-fn accepted(alloc: Global, k: u64, mol: &Mol) -> Result<Answer, NoMemory>
-    requires { 1 ≤ k }
-    ensures { IfOk result (IsAccepted k mol.now) }
+fn accepted(alloc: Global, k: u64, mol: &Mol, name: &[u8]) -> Result<Answer, NoMemory>
+    requires number { 1 ≤ k }
+    requires sound { IsSound mol.now }
+    ensures { IfOk result (IsAccepted k mol.now name.now) }
 {
     let written = write_smiles(alloc, mol)?;
     let Written { text, order } = written;
     let mut out = text;
+    push_name(&mut out, name)?;
     out.push(b'\n')?;
     let mut report = Text::new(alloc);
     put_ok(alloc, &mut report, k, order.as_slice(), 0, 0, 0)?;
@@ -53,16 +68,31 @@ fn refused(alloc: Global, k: u64, refusal: &Refusal) -> Result<Answer, NoMemory>
     })
 }
 
-/// The answer to record k, from 1.
-pub fn answer_record(alloc: Global, k: u64, text: &[u8]) -> Result<Answer, NoMemory>
-    requires number { 1 ≤ k }
-    requires some { 0 < length text.now }
-    ensures answer { IfOk result (λ r. IsAnswer k text.now record { out = r.out; report = r.report }) }
-    ensures refused { IfOk result (λ r. IsTrue r.refused ↔ IsShown text.now) }
+/// Whether these bytes are one line, and not too long.
+fn is_line(bytes: &[u8]) -> bool
+    ensures { result ≡ is_line bytes.now }
 {
-    match read_smiles(alloc, text) {
+    has_no_line_end(bytes) && bytes.len() <= 1_048_576
+}
+
+fn has_no_line_end(bytes: &[u8]) -> bool
+    ensures { result ≡ list_all (λ byte. not (ends_line byte)) bytes.now }
+{
+    bytes.iter().all(|byte| !(*byte == b'\n' || *byte == b'\r'))
+}
+
+/// The answer to record k, from 1, which is one line.
+fn answer_line(alloc: Global, k: u64, line: &[u8]) -> Result<Answer, NoMemory>
+    requires number { 1 ≤ k }
+    requires some { 0 < length line.now }
+    requires line { is_line line.now ≡ true }
+    ensures answer { IfOk result (λ r. IsAnswer k line.now record { out = r.out; report = r.report }) }
+    ensures refused { IfOk result (λ r. IsTrue r.refused ↔ IsShown line.now) }
+{
+    match read_smiles(alloc, line) {
         Ok(read) => {
-            let answer = accepted(alloc, k, &read.mol)?;
+            let name = &line[read.name.from as usize..read.name.to as usize];
+            let answer = accepted(alloc, k, &read.mol, name)?;
             Ok(answer)
         }
         Err(Stop::Refused(refusal)) => {
@@ -71,4 +101,20 @@ pub fn answer_record(alloc: Global, k: u64, text: &[u8]) -> Result<Answer, NoMem
         }
         Err(Stop::NoMemory) => Err(NoMemory),
     }
+}
+
+/// The answer to record k, from 1.
+pub fn answer_record(alloc: Global, k: u64, bytes: &[u8]) -> Result<Answer, NoMemory>
+    requires number { 1 ≤ k }
+    requires some { 0 < length bytes.now }
+    ensures answer { IfOk result (λ r. IsAnswer k bytes.now record { out = r.out; report = r.report }) }
+    ensures refused { IfOk result (λ r. IsTrue r.refused ↔ IsShown bytes.now) }
+{
+    if is_line(bytes) {
+        let answer = answer_line(alloc, k, bytes)?;
+        return Ok(answer);
+    }
+    let refusal = Refusal::at(alloc, Kind::NotBuilt, 1);
+    let answer = refused(alloc, k, &refusal)?;
+    Ok(answer)
 }

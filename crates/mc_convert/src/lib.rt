@@ -11,4 +11,6 @@ pub use command::run;
 pub use status::Status;
 
 #[cfg(test)]
+mod rows;
+#[cfg(test)]
 mod tests;

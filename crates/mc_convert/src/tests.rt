@@ -69,7 +69,7 @@ fn worked_rows(rt: HostRuntime) -> Result<(), Fail> {
     )?;
     gives(&rt, b"C()", refused, b"", b"1 refused BadOrder place=3\n")?;
     gives(&rt, b"C(C", refused, b"", b"1 refused ParenOpen place=2\n")?;
-    gives(&rt, b"CX", refused, b"", b"1 refused NotBuilt place=1\n")?;
+    gives(&rt, b"CX", refused, b"", b"1 refused BadToken place=2\n")?;
     gives(&rt, b"", done, b"", b"")?;
     gives(
         &rt,

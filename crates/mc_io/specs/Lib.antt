@@ -1,6 +1,9 @@
 pub mod Causes
+pub mod Fronts
 pub mod Inputs
 pub mod InputsTaken
+pub mod LineReader
+pub mod Lines
 pub mod MemorySink
 pub mod MemorySource
 pub mod Outside

@@ -2,7 +2,9 @@
 #![tactic(auto)]
 
 mod failing_calls;
+mod first_line;
 mod inputs;
+mod lines;
 mod memory_sink;
 mod memory_source;
 mod pieces;
@@ -14,6 +16,7 @@ mod taking;
 mod whole;
 mod writing;
 
+pub use lines::{LineStep, Lines, lines_law};
 pub use memory_sink::MemorySink;
 pub use memory_source::MemorySource;
 pub use reading::Source;

@@ -1,7 +1,7 @@
-ghost use Rattle.std.specs.Prelude.{◌≡◌, ◌↔◌, ◌+◌, ◌<◌, ◌≤◌, ◌^◌, false, length, Err, IfOk, IfSome, IsTrue, OnOk, OnErr};
-ghost use Rattle.std.specs.Io.KnownBytes.{IsAtEnd};
+ghost use Rattle.std.specs.Prelude.{◌≡◌, ◌↔◌, ◌+◌, ◌<◌, ◌≤◌, ◌^◌, false, List, ℕ, length, Err, IfOk, IfSome, IsTrue, OnOk, OnErr};
+ghost use Rattle.std.specs.Io.KnownBytes.{Consumes, IsAtEnd};
 ghost use Rattle.mc_io.specs.Causes.{Rose};
-ghost use Rattle.mc_io.specs.Outside.{SameBut, TakesFront};
+ghost use Rattle.mc_io.specs.Outside.{SameBut, TakesFront, counted};
 
 use crate::Source;
 use std::alloc::Global;
@@ -15,6 +15,74 @@ pub enum ReadStop {
 }
 
 const BUFFER_SIZE: usize = 65536;
+
+/// What reads of an input gave until its end, or until they stopped.
+#[derive(Drop)]
+pub struct Reading {
+    /// all bytes that were taken, where the end was read
+    pub bytes: Vec<u8>,
+    /// how many bytes were taken
+    pub taken: u128,
+    pub end: Result<(), ReadStop>,
+}
+
+/// Reads an input to its end. A read that fails or passes the limit ends the call at once, and so does
+/// want of memory.
+pub fn read_whole<S: Source>(alloc: Global, source: &mut S, input: u32) -> Reading
+    requires { input < 3 }
+
+    ensures bytes { (front : List ℕ) × Consumes (S.left source.old input) (S.left source.new input) front
+        × (result.taken ≡ length front) × OnOk result.end (result.bytes.items ≡ front) }
+    ensures counted { S.taken source.old input < 2 ^ 128 → S.taken source.new input ≡ counted (S.taken source.old input) result.taken }
+    ensures few { result.taken < 2 ^ 65 }
+    ensures rest { OnOk result.end (IsAtEnd (S.left source.new input)) }
+    ensures ended { OnOk result.end (IsTrue (S.ended source.new input)) }
+    ensures not_ended { OnErr result.end (S.ended source.new input ≡ false) }
+    ensures fault { result.end ≡ Err ReadStop.ReadFault → Rose (S.faults source.old input) (S.faults source.new input) }
+    ensures limit { (result.end ≡ Err ReadStop.InputLimit) ↔ (S.LIMIT < result.taken) }
+
+    ensures later { S.faults source.old input ≤ S.faults source.new input }
+    ensures left_others { SameBut input (S.left source.old) (S.left source.new) }
+    ensures faults_others { SameBut input (S.faults source.old) (S.faults source.new) }
+    ensures taken_others { SameBut input (S.taken source.old) (S.taken source.new) }
+    ensures ended_others { SameBut input (S.ended source.old) (S.ended source.new) }
+{
+    let mut bytes: Vec<u8> = Vec::new(alloc);
+    let mut buffer = [0u8; BUFFER_SIZE];
+    let mut taken = 0u128;
+    loop {
+        match source.read(input, &mut buffer) {
+            Err(_) => return stopped(bytes, taken, ReadStop::ReadFault),
+            Ok(0) => {
+                return Reading {
+                    bytes,
+                    taken,
+                    end: Ok(()),
+                };
+            }
+            Ok(n) => {
+                taken += n as u128;
+                if taken > S::LIMIT as u128 {
+                    return stopped(bytes, taken, ReadStop::InputLimit);
+                }
+                if bytes.extend_from_slice(&buffer[..n]).is_err() {
+                    return stopped(bytes, taken, ReadStop::NoMemory);
+                }
+            }
+        }
+    }
+}
+
+fn stopped(bytes: Vec<u8>, taken: u128, stop: ReadStop) -> Reading
+    ensures taken { result.taken ≡ taken }
+    ensures end { result.end ≡ Err stop }
+{
+    Reading {
+        bytes,
+        taken,
+        end: Err(stop),
+    }
+}
 
 /// All that is left of an input.
 pub fn read_all<S: Source>(alloc: Global, source: &mut S, input: u32) -> Result<Vec<u8>, ReadStop>
@@ -39,22 +107,9 @@ pub fn read_all<S: Source>(alloc: Global, source: &mut S, input: u32) -> Result<
     ensures taken_others { SameBut input (S.taken source.old) (S.taken source.new) }
     ensures ended_others { SameBut input (S.ended source.old) (S.ended source.new) }
 {
-    let mut bytes: Vec<u8> = Vec::new(alloc);
-    let mut buffer = [0u8; BUFFER_SIZE];
-    let mut count = 0u64;
-    loop {
-        match source.read(input, &mut buffer) {
-            Err(_) => return Err(ReadStop::ReadFault),
-            Ok(0) => return Ok(bytes),
-            Ok(n) => {
-                if n as u64 > S::LIMIT - count {
-                    return Err(ReadStop::InputLimit);
-                }
-                count += n as u64;
-                if bytes.extend_from_slice(&buffer[..n]).is_err() {
-                    return Err(ReadStop::NoMemory);
-                }
-            }
-        }
+    let reading = read_whole(alloc, source, input);
+    match reading.end {
+        Ok(()) => Ok(reading.bytes),
+        Err(stop) => Err(stop),
     }
 }

@@ -5,3 +5,4 @@ pub mod Twins
 pub mod Marked
 pub mod Evenness
 pub mod Rows
+pub mod Labelled

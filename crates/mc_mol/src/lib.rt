@@ -2,12 +2,14 @@
 #![tactic(auto)]
 
 mod adjacency;
+mod independent;
 mod mol;
 mod parts;
 mod permutation;
 #[cfg(test)]
 mod tests;
 
+pub use independent::independent_rings;
 pub use mol::{AddAtom, AddBond, Mol};
 pub use parts::{Atom, Bond, HalfEdge, Sides, Slot};
 pub use permutation::parity;

@@ -1,3 +1,5 @@
+ghost use Rattle.std.specs.Prelude.{◌≡◌};
+
 use crate::*;
 use mc_base::{AtomId, BondId};
 use mc_elements::Element;
@@ -73,5 +75,44 @@ fn parity_counts_the_rest_as_a_place(rt: HostRuntime) -> Result<(), Fail> {
     assert_eq!(rt; parity(&list, &turned), Some(false));
     assert_eq!(rt; parity(&list, &even), Some(true));
     assert_eq!(rt; parity(&list, &other), None);
+    Ok(())
+}
+
+fn bond(first: u32, second: u32) -> Bond
+    ensures first { result.first.0 ≡ first }
+    ensures second { result.second.0 ≡ second }
+{
+    Bond {
+        first: AtomId(first),
+        second: AtomId(second),
+        order: 1,
+    }
+}
+
+#[test]
+fn two_rings_joined_by_a_bond(rt: HostRuntime) -> Result<(), Fail> {
+    let bonds = [
+        bond(0, 1),
+        bond(1, 2),
+        bond(2, 0),
+        bond(2, 3),
+        bond(3, 4),
+        bond(4, 5),
+        bond(5, 3),
+    ];
+    assert_eq!(rt; independent_rings(rt.alloc(), &bonds, 6)?, 2);
+    Ok(())
+}
+
+#[test]
+fn a_ring_and_a_chain_apart(rt: HostRuntime) -> Result<(), Fail> {
+    let bonds = [bond(5, 3), bond(1, 2), bond(0, 1), bond(0, 2)];
+    assert_eq!(rt; independent_rings(rt.alloc(), &bonds, 6)?, 1);
+    Ok(())
+}
+
+#[test]
+fn no_atoms_have_no_rings(rt: HostRuntime) -> Result<(), Fail> {
+    assert_eq!(rt; independent_rings(rt.alloc(), &[], 0)?, 0);
     Ok(())
 }

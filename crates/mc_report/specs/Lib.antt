@@ -1,1 +1,4 @@
+pub mod Behind
+pub mod Fronts
+pub mod Grammar
 pub mod Report

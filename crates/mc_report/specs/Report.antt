@@ -18,18 +18,24 @@ abbrev pub numbers : List AtomId → List ℕ
 numbers [] = []
 numbers (a ∷ others) = decimal (a.0 + 1) ++ later_numbers others
 
--- The line of a record that is written: its number; the map, whose entry k is the read atom of written atom k; and
--- three counts of what the target can't hold.
+-- What the line of a record that is written says: its number; the map, whose entry k is the read atom of written atom k;
+-- and three counts of what the target can't hold.
+abbrev pub ok_text : ℕ → List AtomId → ℕ → ℕ → ℕ → List ℕ
+ok_text k map idle ring lines = decimal k ++ codes " ok map=" ++ numbers map ++ codes " idle=" ++ decimal idle
+    ++ codes " ring=" ++ decimal ring ++ codes " data=" ++ decimal lines
+
 abbrev pub ok_line : ℕ → List AtomId → ℕ → ℕ → ℕ → List ℕ
-ok_line k map idle ring lines = decimal k ++ codes " ok map=" ++ numbers map ++ codes " idle=" ++ decimal idle
-    ++ codes " ring=" ++ decimal ring ++ codes " data=" ++ decimal lines ++ line_end
+ok_line k map idle ring lines = ok_text k map idle ring lines ++ line_end
 
 -- what is said of a refusal: a place, or for NoPlacement a barrier with its number of odd parts
 abbrev pub reason : Kind → ℕ → List AtomId → ℕ → List ℕ
 reason NoPlacement place barrier odd = codes " barrier=" ++ numbers barrier ++ codes " odd=" ++ decimal odd
 reason _ place barrier odd = codes " place=" ++ decimal place
 
--- the line of a record that is refused
+-- what the line of a record that is refused says
+abbrev pub refused_text : ℕ → Refusal → List ℕ
+refused_text k refusal = decimal k ++ codes " refused " ++ kind_name refusal.kind
+    ++ reason refusal.kind refusal.place refusal.barrier refusal.odd
+
 abbrev pub refused_line : ℕ → Refusal → List ℕ
-refused_line k refusal = decimal k ++ codes " refused " ++ kind_name refusal.kind
-    ++ reason refusal.kind refusal.place refusal.barrier refusal.odd ++ line_end
+refused_line k refusal = refused_text k refusal ++ line_end

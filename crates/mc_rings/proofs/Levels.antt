@@ -2,7 +2,6 @@
 use Rattle.std.proofs.Common.{◌≡◌, ◌≢◌, ◌∙◌, ℕ, zero, suc, ◌+◌, ◌<◌, ◌≤◌, ◌⊎◌, ◌||◌, ◌==◌, Bool, true, false, List, [], ◌∷◌, ◌++◌, Option, Some, None, length, get_or, slice_get, slice_set, replicate, subst, sym, ap, arith, refl, inl, inr}
 use Rattle.std.specs.List.{list_any}
 use Rattle.std.proofs.lemmas.Bool.{cases_eq, cases_lt}
-use Rattle.std.proofs.lemmas.Bool.Decides.{nat_tests}
 use Rattle.std.proofs.lemmas.Option.{slice_get_within, slice_get-get_or}
 use Rattle.std.proofs.lemmas.List.{length-append}
 use Rattle.mc_base.specs.declared.ids.AtomId.{AtomId}
@@ -16,12 +15,12 @@ use Rattle.mc_rings.specs.Distances.{Mark, MarkWithin, Step, From, AreDistances}
 use Rattle.mc_rings.specs.Levels.{Holds, unmarked, Between, Explored, Keeps, Reaches, LevelDone}
 
 -- a value that is set is there, and no other changes
-set_here : {A : Type 0} (xs : List A) (i : ℕ) (x y : A) → slice_get xs i ≡ Some x → slice_get (slice_set xs i y) i ≡ Some y
+pub set_here : {A : Type 0} (xs : List A) (i : ℕ) (x y : A) → slice_get xs i ≡ Some x → slice_get (slice_set xs i y) i ≡ Some y
 set_here [] i x y e = cc
 set_here (z ∷ xs) zero x y e = refl
 set_here (z ∷ xs) (suc i) x y e = set_here xs i x y e
 
-set_other : {A : Type 0} (xs : List A) (i k : ℕ) (y : A) → k ≢ i → slice_get (slice_set xs i y) k ≡ slice_get xs k
+pub set_other : {A : Type 0} (xs : List A) (i k : ℕ) (y : A) → k ≢ i → slice_get (slice_set xs i y) k ≡ slice_get xs k
 set_other [] i k y ne = refl
 set_other (z ∷ xs) zero zero y ne = absurd (ne refl)
 set_other (z ∷ xs) zero (suc k) y ne = refl
@@ -38,7 +37,7 @@ unmarked-set (None ∷ marks) (suc a) d e = let h = unmarked-set marks a d e in 
 pub mark_kept : (marks : List (Option ℕ)) (y e : ℕ) → slice_get marks y ≡ Some None → Keeps marks (slice_set marks y (Some e))
 mark_kept marks y e free a d at = set_other marks y a (Some e) (λ same. let there : slice_get marks y ≡ Some (Some d) = subst (λ (n : ℕ). Mark marks n d) same at in cc) ∙ at
 
-mark_from : (marks : List (Option ℕ)) (y e a d : ℕ) → Mark (slice_set marks y (Some e)) a d → ((a ≡ y) × (d ≡ e)) ⊎ Mark marks a d
+pub mark_from : (marks : List (Option ℕ)) (y e a d : ℕ) → Mark (slice_set marks y (Some e)) a d → ((a ≡ y) × (d ≡ e)) ⊎ Mark marks a d
 mark_from marks y e a d at = elim (slice_get-slice_set marks y a (Some e) (Some d) at) [
   | inl here ↦ inl (here.0, number here.1)
   | inr there ↦ inr there
@@ -55,13 +54,13 @@ from_kept bonds u v marks y e a d free from = record {
   step = from.step;
 }
 
-within_kept : (marks new : List (Option ℕ)) (a most : ℕ) → Keeps marks new → MarkWithin marks a most → MarkWithin new a most
+pub within_kept : (marks new : List (Option ℕ)) (a most : ℕ) → Keeps marks new → MarkWithin marks a most → MarkWithin new a most
 within_kept marks new a most keeps (d, at, few) = (d, keeps a d at, few)
 
-abbrev made : ℕ → AtomId
+abbrev pub made : ℕ → AtomId
 made n = record { 0 = n }
 
-atom_is : (a : AtomId) (b : ℕ) → Some a ≡ Some (made b) → a.0 ≡ b
+pub atom_is : (a : AtomId) (b : ℕ) → Some a ≡ Some (made b) → a.0 ≡ b
 atom_is a b e = ap (λ (c : AtomId). c.0) (inside a (made b) e)
   where
     inside : (x y : AtomId) → Some x ≡ Some y → x ≡ y
@@ -142,7 +141,10 @@ finished bonds u v atoms level marks is = record {
   start = is.start;
   zero_is = is.zero_is;
   down = is.down;
-  onward = λ x y d m step. is.onward x y d m (nearer x d m) step;
+  level = level;
+  low = λ a d m. let h = nearer a d m in omega arith;
+  onward = is.onward;
+  further = λ free x y d m step. is.onward x y d m (nearer x d m) step;
 }
   where
     nobody : (a : ℕ) → Holds [] a → ⊥
@@ -159,12 +161,12 @@ finished bonds u v atoms level marks is = record {
 abbrev pub nobody : ℕ → List (Option ℕ)
 nobody n = replicate n None
 
-none_marked : (n a d : ℕ) → Mark (nobody n) a d → ⊥
+pub none_marked : (n a d : ℕ) → Mark (nobody n) a d → ⊥
 none_marked zero a d e = cc
 none_marked (suc n) zero d e = cc
 none_marked (suc n) (suc a) d e = none_marked n a d e
 
-free_at : (n u : ℕ) → u < n → slice_get (nobody n) u ≡ Some None
+pub free_at : (n u : ℕ) → u < n → slice_get (nobody n) u ≡ Some None
 free_at zero u h = absurd (omega arith)
 free_at (suc n) zero h = refl
 free_at (suc n) (suc u) h = free_at n u (omega arith)
@@ -173,7 +175,7 @@ pub unmarked-replicate : (n : ℕ) → unmarked (nobody n) ≡ n
 unmarked-replicate zero = refl
 unmarked-replicate (suc n) = let h = unmarked-replicate n in omega arith
 
-length-none : (n : ℕ) → length (nobody n) ≡ n
+pub length-none : (n : ℕ) → length (nobody n) ≡ n
 length-none zero = refl
 length-none (suc n) = let h = length-none n in omega arith
 
@@ -220,7 +222,7 @@ joined_at (b ∷ bonds) (suc k) bond u v at e = or_true (joins b u v) (are_joine
 pub half_edge_joined : (m : Molecule) (a : AtomId) (place : ℕ) (half : HalfEdge) → HasTwin m a place half → are_joined m.bonds a.0 half.to.0 ≡ true
 half_edge_joined m a place half twin = joined_at m.bonds half.bond.0 twin.bond a.0 half.to.0 twin.is_bond twin.joined
 
-leads_to : (halves : List HalfEdge) (y : ℕ) → list_any (λ (half : HalfEdge). half.to.0 == y) halves ≡ true → (k : ℕ) × (half : HalfEdge) × (slice_get halves k ≡ Some half) × (half.to.0 ≡ y)
+pub leads_to : (halves : List HalfEdge) (y : ℕ) → list_any (λ (half : HalfEdge). half.to.0 == y) halves ≡ true → (k : ℕ) × (half : HalfEdge) × (slice_get halves k ≡ Some half) × (half.to.0 ≡ y)
 leads_to [] y e = cc
 leads_to (half ∷ halves) y e = elim (cases_eq half.to.0 y) [
   | inl here ↦ (0, half, refl, here)
@@ -338,13 +340,27 @@ next_begun bonds u v atoms level current next more further marks new done e f g 
     let one : suc level ≡ level + 1 = omega arith in
     rw (e, f, g) (subst (λ (k : ℕ). Between bonds u v atoms k next marks []) one (next_level bonds u v atoms level current marks next done.between done.explored))
 
-pub finished_at : (bonds : List Bond) (u v atoms level : ℕ) (current next : List AtomId) (marks : List (Option ℕ)) → length current ≡ 0 → next ≡ []
+-- v has a number
+stopped : (bonds : List Bond) (u v atoms level d : ℕ) (current : List AtomId) (marks : List (Option ℕ)) → Mark marks v d → Between bonds u v atoms level current marks [] → AreDistances bonds u v marks
+stopped bonds u v atoms level d current marks at is = record {
+  level = level;
+  start = is.start;
+  low = λ a e m.
+      let h = is.low a e m in
+      let not_next : e ≢ suc level = λ same. nowhere a (is.behind a (subst (λ (k : ℕ). Mark marks a k) same m)) in
+      omega arith;
+  zero_is = is.zero_is;
+  down = is.down;
+  onward = is.onward;
+  further = λ free. absurd (let mark = at in cc);
+}
+  where
+    nowhere : (a : ℕ) → Holds [] a → ⊥
+    nowhere a (i, e) = cc
+
+pub finished_at : (bonds : List Bond) (u v atoms level : ℕ) (current next : List AtomId) (marks : List (Option ℕ)) → (length current ≡ 0) ⊎ ((d : ℕ) × (Mark marks v d)) → next ≡ []
     → Between bonds u v atoms level current marks next → AreDistances bonds u v marks
-finished_at bonds u v atoms level [] next marks none e is = finished bonds u v atoms level marks (subst (λ (xs : List AtomId). Between bonds u v atoms level [] marks xs) e is)
-finished_at bonds u v atoms level (a ∷ current) next marks none e is = absurd (omega arith)
-
-pub zero_test : (n : ℕ) → true ≡ (n == 0) → n ≡ 0
-zero_test n e = grind (arith, nat_tests)
-
-pub nonzero_test : (n : ℕ) → false ≡ (n == 0) → 0 < n
-nonzero_test n e = grind (arith, nat_tests)
+finished_at bonds u v atoms level [] next marks (inl none) e is = finished bonds u v atoms level marks (subst (λ (xs : List AtomId). Between bonds u v atoms level [] marks xs) e is)
+finished_at bonds u v atoms level (a ∷ current) next marks (inl none) e is = absurd (omega arith)
+finished_at bonds u v atoms level current next marks (inr (d, at)) e is =
+    stopped bonds u v atoms level d current marks at (subst (λ (xs : List AtomId). Between bonds u v atoms level current marks xs) e is)

@@ -1,3 +1,14 @@
 pub mod RingSizes
 pub mod Levels
+pub mod Forests
+pub mod Paths
+pub mod Parts
+pub mod LeastPlaces
+pub mod BlockSteps
+pub mod BlockEnds
+pub mod OneBlock
+pub mod SharedPaths
+pub mod BlocksShared
+pub mod BlockOrders
+pub mod LoneBonds
 pub mod Rows

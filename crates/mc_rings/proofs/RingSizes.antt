@@ -1,5 +1,5 @@
 -- Distances from one end of a bond without the bond tell its ring size.
-use Rattle.std.proofs.Common.{◌≡◌, ◌≢◌, ◌∙◌, ℕ, zero, suc, ◌+◌, ◌-◌, ◌<◌, ◌≤◌, true, ◌&&◌, ◌||◌, ◌==◌, List, [], ◌∷◌, ◌++◌, Option, Some, None, length, reverse, slice_get, get_or, subst, sym, ap, arith, refl, inl, inr}
+use Rattle.std.proofs.Common.{◌≡◌, ◌≢◌, ◌∙◌, ℕ, zero, suc, ◌+◌, ◌-◌, ◌<◌, ◌≤◌, ◌⊎◌, true, ◌&&◌, ◌||◌, ◌==◌, List, [], ◌∷◌, ◌++◌, Option, Some, None, length, reverse, slice_get, get_or, subst, sym, ap, arith, refl, inl, inr}
 use Rattle.std.proofs.lemmas.Bool.{cases_eq, cases_lt}
 use Rattle.std.proofs.lemmas.List.{length-append, length-reverse, get_or-reverse, get_or_append_left}
 use Rattle.std.proofs.Math.Seq.{get_or-append_seam}
@@ -12,7 +12,7 @@ use Rattle.mc_rings.specs.Distances.{Mark, MarkWithin, Step, From, AreDistances}
 same_mark : (marks : List (Option ℕ)) (a b d e : ℕ) → a ≡ b → Mark marks a d → Mark marks b e → d ≡ e
 same_mark marks a b d e same at_a at_b = let at : slice_get marks a ≡ Some (Some e) = subst (λ (n : ℕ). Mark marks n e) (sym same) at_b in cc
 
-joined_back : (bonds : List Bond) (x y : ℕ) → are_joined bonds x y ≡ true → are_joined bonds y x ≡ true
+pub joined_back : (bonds : List Bond) (x y : ℕ) → are_joined bonds x y ≡ true → are_joined bonds y x ≡ true
 joined_back bonds x y e = sym (turned bonds) ∙ e
   where
     turned : (bonds : List Bond) → are_joined bonds x y ≡ are_joined bonds y x
@@ -169,12 +169,26 @@ turned_follows path x y long (inr (at_x, at_y)) =
       reversed_at path 0 first_in ∙ ap (λ (k : ℕ). get_or path k 0) first_is ∙ at_x,
     )
 
-within_more : (marks : List (Option ℕ)) (a m n : ℕ) → m ≤ n → MarkWithin marks a m → MarkWithin marks a n
-within_more marks a m n le (d, at, few) = (d, at, omega arith)
+-- all atoms nearer than the level are followed
+record Onward (bonds : List Bond) (u v : ℕ) (marks : List (Option ℕ)) (level : ℕ) : Type 0 where
+  start : Mark marks u 0
+  onward : (x y d : ℕ) → Mark marks x d → d < level → Step bonds u v x y → MarkWithin marks y (suc d)
 
-onward_within : (bonds : List Bond) (u v : ℕ) (marks : List (Option ℕ)) → AreDistances bonds u v marks → (x y most : ℕ) → MarkWithin marks x most → Step bonds u v x y
-    → MarkWithin marks y (suc most)
-onward_within bonds u v marks are x y most (d, at, few) step = within_more marks y (suc d) (suc most) (omega arith) (are.onward x y d at step)
+-- the atom has a number of at most this, or this lies past the level
+abbrev Reached : List (Option ℕ) → ℕ → ℕ → ℕ → Type 0
+Reached marks level a most = MarkWithin marks a most ⊎ (level ≤ most)
+
+within_more : (marks : List (Option ℕ)) (level : ℕ) (a m n : ℕ) → m ≤ n → Reached marks level a m → Reached marks level a n
+within_more marks level a m n le (inl (d, at, few)) = inl (d, at, omega arith)
+within_more marks level a m n le (inr past) = inr (omega arith)
+
+onward_within : (bonds : List Bond) (u v : ℕ) (marks : List (Option ℕ)) (level : ℕ) → Onward bonds u v marks level → (x y most : ℕ) → Reached marks level x most → Step bonds u v x y
+    → Reached marks level y (suc most)
+onward_within bonds u v marks level are x y most (inr past) step = inr (omega arith)
+onward_within bonds u v marks level are x y most (inl (d, at, few)) step = elim (cases_lt d level) [
+  | inl nearer ↦ within_more marks level y (suc d) (suc most) (omega arith) (inl (are.onward x y d at nearer step))
+  | inr far ↦ inr (omega arith)
+]
 
 -- two places of a closed path that hold one atom are one place
 same_place : (bonds : List Bond) (path : List ℕ) → IsClosedPath bonds path → (i j : ℕ) → i < length path → j < length path → get_or path i 0 ≡ get_or path j 0 → i ≡ j
@@ -196,12 +210,12 @@ record Ends (bonds : List Bond) (u v : ℕ) (path : List ℕ) (i j : ℕ) : Type
   not_next : i + 1 ≢ j
   not_round : i + 1 ≡ length path → j ≢ 0
 
-along : (bonds : List Bond) (u v : ℕ) (marks : List (Option ℕ)) (path : List ℕ) (i j : ℕ) → AreDistances bonds u v marks → Ends bonds u v path i j
-    → (k : ℕ) → i + k < length path → MarkWithin marks (get_or path (i + k) 0) k
-along bonds u v marks path i j are e zero h =
+along : (bonds : List Bond) (u v : ℕ) (marks : List (Option ℕ)) (level : ℕ) (path : List ℕ) (i j : ℕ) → Onward bonds u v marks level → Ends bonds u v path i j
+    → (k : ℕ) → i + k < length path → Reached marks level (get_or path (i + k) 0) k
+along bonds u v marks level path i j are e zero h =
     let i_is : i ≡ i + 0 = omega arith in
-    (0, subst (λ (n : ℕ). Mark marks n 0) (sym e.at_u ∙ ap (λ (k : ℕ). get_or path k 0) i_is) are.start, omega arith)
-along bonds u v marks path i j are e (suc k) h =
+    inl (0, subst (λ (n : ℕ). Mark marks n 0) (sym e.at_u ∙ ap (λ (k : ℕ). get_or path k 0) i_is) are.start, omega arith)
+along bonds u v marks level path i j are e (suc k) h =
     let before : i + k < length path = omega arith in
     let next : i + k + 1 ≡ i + suc k = omega arith in
     let next_in : i + k + 1 < length path = omega arith in
@@ -212,16 +226,16 @@ along bonds u v marks path i j are e (suc k) h =
           let y_place : i + k + 1 ≡ j = same_place bonds path e.is (i + k + 1) j next_in e.j_in (y_is ∙ sym e.at_v) in
           e.not_next (omega arith);
     } in
-    subst (λ (n : ℕ). MarkWithin marks (get_or path n 0) (suc k)) next
-    (onward_within bonds u v marks are _ _ k (along bonds u v marks path i j are e k before) step)
+    subst (λ (n : ℕ). Reached marks level (get_or path n 0) (suc k)) next
+    (onward_within bonds u v marks level are _ _ k (along bonds u v marks level path i j are e k before) step)
 
-round : (bonds : List Bond) (u v : ℕ) (marks : List (Option ℕ)) (path : List ℕ) (i j : ℕ) → AreDistances bonds u v marks → Ends bonds u v path i j
-    → (k : ℕ) → k ≤ j → j < i → MarkWithin marks (get_or path k 0) (length path - i + k)
-round bonds u v marks path i j are e zero h less =
+round : (bonds : List Bond) (u v : ℕ) (marks : List (Option ℕ)) (level : ℕ) (path : List ℕ) (i j : ℕ) → Onward bonds u v marks level → Ends bonds u v path i j
+    → (k : ℕ) → k ≤ j → j < i → Reached marks level (get_or path k 0) (length path - i + k)
+round bonds u v marks level path i j are e zero h less =
     let n = e.i_in in
     let last_is : i + (length path - 1 - i) ≡ length path - 1 = omega arith in
     let last_in : i + (length path - 1 - i) < length path = omega arith in
-    let last = subst (λ (k : ℕ). MarkWithin marks (get_or path k 0) (length path - 1 - i)) last_is (along bonds u v marks path i j are e (length path - 1 - i) last_in) in
+    let last = subst (λ (k : ℕ). Reached marks level (get_or path k 0) (length path - 1 - i)) last_is (along bonds u v marks level path i j are e (length path - 1 - i) last_in) in
     let step : Step bonds u v (get_or path (length path - 1) 0) (get_or path 0 0) = record {
       joined = e.is.closed;
       not_barred = λ x_is y_is.
@@ -231,8 +245,8 @@ round bonds u v marks path i j are e zero h less =
           let y_place : 0 ≡ j = same_place bonds path e.is 0 j first_in e.j_in (y_is ∙ sym e.at_v) in
           e.not_round (omega arith) (sym y_place);
     } in
-    within_more marks (get_or path 0 0) (suc (length path - 1 - i)) (length path - i + 0) (omega arith) (onward_within bonds u v marks are _ _ (length path - 1 - i) last step)
-round bonds u v marks path i j are e (suc k) h less =
+    within_more marks level (get_or path 0 0) (suc (length path - 1 - i)) (length path - i + 0) (omega arith) (onward_within bonds u v marks level are _ _ (length path - 1 - i) last step)
+round bonds u v marks level path i j are e (suc k) h less =
     let next : k + 1 ≡ suc k = omega arith in
     let j_in = e.j_in in
     let k_in : k < length path = omega arith in
@@ -243,14 +257,14 @@ round bonds u v marks path i j are e (suc k) h less =
           let x_place : k ≡ i = same_place bonds path e.is k i k_in e.i_in (x_is ∙ sym e.at_u) in
           absurd (omega arith);
     } in
-    subst (λ (n : ℕ). MarkWithin marks (get_or path n 0) (length path - i + suc k)) next
-    (within_more marks _ (suc (length path - i + k)) (length path - i + suc k) (omega arith)
-    (onward_within bonds u v marks are _ _ (length path - i + k) (round bonds u v marks path i j are e k (omega arith) less) step))
+    subst (λ (n : ℕ). Reached marks level (get_or path n 0) (length path - i + suc k)) next
+    (within_more marks level _ (suc (length path - i + k)) (length path - i + suc k) (omega arith)
+    (onward_within bonds u v marks level are _ _ (length path - i + k) (round bonds u v marks level path i j are e k (omega arith) less) step))
 
 -- where u follows v, v has a number below the length
-reaches : (bonds : List Bond) (u v : ℕ) (marks : List (Option ℕ)) (path : List ℕ) → AreDistances bonds u v marks → IsClosedPath bonds path → Follows path v u
-    → MarkWithin marks v (length path - 1)
-reaches bonds u v marks path are is (inl (j, within, at_v, at_u)) =
+reaches : (bonds : List Bond) (u v : ℕ) (marks : List (Option ℕ)) (level : ℕ) (path : List ℕ) → Onward bonds u v marks level → IsClosedPath bonds path → Follows path v u
+    → Reached marks level v (length path - 1)
+reaches bonds u v marks level path are is (inl (j, within, at_v, at_u)) =
     let long = is.long in
     let ends : Ends bonds u v path (j + 1) j = record {
       is = is;
@@ -261,9 +275,9 @@ reaches bonds u v marks path are is (inl (j, within, at_v, at_u)) =
       not_next = λ e. omega arith;
       not_round = λ e f. omega arith;
     } in
-    subst (λ (n : ℕ). MarkWithin marks n (length path - 1)) at_v
-    (within_more marks (get_or path j 0) (length path - (j + 1) + j) (length path - 1) (omega arith) (round bonds u v marks path (j + 1) j are ends j (omega arith) (omega arith)))
-reaches bonds u v marks path are is (inr (at_v, at_u)) =
+    subst (λ (n : ℕ). Reached marks level n (length path - 1)) at_v
+    (within_more marks level (get_or path j 0) (length path - (j + 1) + j) (length path - 1) (omega arith) (round bonds u v marks level path (j + 1) j are ends j (omega arith) (omega arith)))
+reaches bonds u v marks level path are is (inr (at_v, at_u)) =
     let long = is.long in
     let ends : Ends bonds u v path 0 (length path - 1) = record {
       is = is;
@@ -275,16 +289,16 @@ reaches bonds u v marks path are is (inr (at_v, at_u)) =
       not_round = λ e f. omega arith;
     } in
     let place : 0 + (length path - 1) ≡ length path - 1 = omega arith in
-    subst (λ (n : ℕ). MarkWithin marks n (length path - 1)) at_v
-    (subst (λ (k : ℕ). MarkWithin marks (get_or path k 0) (length path - 1)) place (along bonds u v marks path 0 (length path - 1) are ends (length path - 1) (omega arith)))
+    subst (λ (n : ℕ). Reached marks level n (length path - 1)) at_v
+    (subst (λ (k : ℕ). Reached marks level (get_or path k 0) (length path - 1)) place (along bonds u v marks level path 0 (length path - 1) are ends (length path - 1) (omega arith)))
 
-reaches_ring : (bonds : List Bond) (bond : Bond) (marks : List (Option ℕ)) (path : List ℕ) → AreDistances bonds bond.first.0 bond.second.0 marks → IsClosedPath bonds path
-    → Uses path bond → MarkWithin marks bond.second.0 (length path - 1)
-reaches_ring bonds bond marks path are is (inl along_it) =
+reaches_ring : (bonds : List Bond) (bond : Bond) (marks : List (Option ℕ)) (level : ℕ) (path : List ℕ) → Onward bonds bond.first.0 bond.second.0 marks level → IsClosedPath bonds path
+    → Uses path bond → Reached marks level bond.second.0 (length path - 1)
+reaches_ring bonds bond marks level path are is (inl along_it) =
     let n : length (reverse path) - 1 ≡ length path - 1 = omega (arith, length-reverse path) in
-    subst (λ (k : ℕ). MarkWithin marks bond.second.0 k) n
-    (reaches bonds bond.first.0 bond.second.0 marks (reverse path) are (turned bonds path is) (turned_follows path bond.first.0 bond.second.0 is.long along_it))
-reaches_ring bonds bond marks path are is (inr against_it) = reaches bonds bond.first.0 bond.second.0 marks path are is against_it
+    subst (λ (k : ℕ). Reached marks level bond.second.0 k) n
+    (reaches bonds bond.first.0 bond.second.0 marks level (reverse path) are (turned bonds path is) (turned_follows path bond.first.0 bond.second.0 is.long along_it))
+reaches_ring bonds bond marks level path are is (inr against_it) = reaches bonds bond.first.0 bond.second.0 marks level path are is against_it
 
 -- the number of the second end, and the bond itself
 pub ring_size_found : (bonds : List Bond) (bond : Bond) (marks : List (Option ℕ)) → AreDistances bonds bond.first.0 bond.second.0 marks → bond.first.0 ≢ bond.second.0
@@ -295,17 +309,19 @@ ring_size_found bonds bond marks are different joined d at =
       path = p.path;
       ring = ring_of bonds bond marks are different joined d p;
       size_is = p.count;
-      least = λ other ring.
-          let found = reaches_ring bonds bond marks other are ring.closed_path ring.uses in
-          let same : d ≡ found.0 = same_mark marks bond.second.0 bond.second.0 d found.0 refl at found.1 in
-          let long = ring.closed_path.long in
-          let few = found.2 in
-          omega arith;
+      least = λ other ring. least other ring.closed_path.long
+          (reaches_ring bonds bond marks are.level other (record { start = are.start; onward = are.onward }) ring.closed_path ring.uses);
     }
+  where
+    least : (other : List ℕ) → 3 ≤ length other → Reached marks are.level bond.second.0 (length other - 1) → suc d ≤ length other
+    least other long (inl (found, at_found, few)) = let same : d ≡ found = same_mark marks bond.second.0 bond.second.0 d found refl at at_found in omega arith
+    least other long (inr past) = let low = are.low bond.second.0 d at in omega arith
 
 pub ring_size_none : (bonds : List Bond) (bond : Bond) (marks : List (Option ℕ)) → AreDistances bonds bond.first.0 bond.second.0 marks
     → slice_get marks bond.second.0 ≡ Some None → (path : List ℕ) → ¬ IsRingOf bonds bond path
-ring_size_none bonds bond marks are free path ring =
-    let found = reaches_ring bonds bond marks path are ring.closed_path ring.uses in
-    let at = found.1 in
-    cc
+ring_size_none bonds bond marks are free path ring = nowhere ring.closed_path.long
+    (reaches_ring bonds bond marks (length path) path (record { start = are.start; onward = λ x y d at less step. are.further free x y d at step }) ring.closed_path ring.uses)
+  where
+    nowhere : 3 ≤ length path → Reached marks (length path) bond.second.0 (length path - 1) → ⊥
+    nowhere long (inl (found, at, few)) = cc
+    nowhere long (inr past) = omega arith

@@ -39,3 +39,10 @@ RingSizeIs bonds bond (Some size) = IsRingSize bonds bond size
 -- the same of the bond of a number
 abbrev pub RingSizeAt : List Bond → ℕ → Option ℕ → Type 0
 RingSizeAt bonds k size = (bond : Bond) → slice_get bonds k ≡ Some bond → RingSizeIs bonds bond size
+
+-- one closed path of the molecule goes along both bonds
+pub record ShareClosedPath (bonds : List Bond) (b c : Bond) : Type 0 where
+  pub path : List ℕ
+  pub closed_path : IsClosedPath bonds path
+  pub first : Uses path b
+  pub second : Uses path c

@@ -1,6 +1,12 @@
 pub mod ClosedPaths
+pub mod Parts
+pub mod Paths
 pub mod Distances
 pub mod Levels
+pub mod Forests
+pub mod Blocks
+pub mod BlockOrder
 pub mod Rings
 pub mod Centres
 pub mod SidePlaces
+pub mod Counts

@@ -1,11 +1,19 @@
 //! The rings of a molecule: for each bond the least closed path through it.
 #![tactic(auto)]
 
+mod block_order;
+mod block_tree;
 mod centres;
+mod forest;
+mod lows;
+#[cfg(test)]
+mod order_checks;
 mod rings;
 mod search;
 mod side_places;
 mod sizes;
+#[cfg(test)]
+mod small_graphs;
 #[cfg(test)]
 mod tests;
 

@@ -1,5 +1,9 @@
-use crate::sizes::ring_size_of;
-use mc_base::{BondId, NoMemory};
+use crate::block_order::block_order;
+use crate::block_tree::{block_tree, bond_blocks};
+use crate::forest::{forest_of, independent_count};
+use crate::lows::lows_of;
+use crate::sizes::ring_sizes;
+use mc_base::{AtomId, BondId, NoMemory};
 use mc_mol::Mol;
 use std::alloc::Global;
 use std::marker::Model;
@@ -8,14 +12,22 @@ use std::marker::Model;
 #[derive(Drop)]
 pub struct Rings {
     sizes: Vec<Option<u32>>,
+    blocks: Vec<u32>,
+    independent: u32,
+    order: Vec<AtomId>,
+    firsts: Vec<AtomId>,
+    above: Vec<Option<u32>>,
 }
 
 impl Model for Rings {
+    ghost use Rattle.std.specs.Prelude.{◌≤◌, length};
     ghost use Rattle.mc_rings.specs.Rings.{RingList};
 
     ghost Value = { RingList };
 
-    ghost view = { λ r. record { sizes = r.sizes.items } };
+    ghost view = { λ r. record { sizes = r.sizes.items; blocks = r.blocks.items; independent = r.independent; order = r.order.items; firsts = r.firsts.items; above = r.above.items } };
+
+    ghost invariant = { λ r. length r.firsts.items ≤ 999 };
 }
 
 impl Rings {
@@ -28,12 +40,66 @@ impl Rings {
     pub fn of(alloc: Global, mol: &Mol) -> Result<Rings, NoMemory>
         ensures { IfOk result (λ rings. AreRingsOf mol.now rings) }
     {
-        let mut sizes = Vec::new(alloc);
-        for k in 0..mol.bond_count() {
-            let size = ring_size_of(alloc, mol, BondId(k))?;
-            sizes.push(size)?;
-        }
-        Ok(Rings { sizes })
+        let forest = forest_of(alloc, mol)?;
+        let lows = lows_of(alloc, mol, &forest)?;
+        let tree = block_tree(alloc, mol, &forest, &lows)?;
+        let blocks = bond_blocks(alloc, mol, &forest, &tree)?;
+        let sizes = ring_sizes(alloc, mol, &blocks, tree.firsts.len())?;
+        let independent = independent_count(mol, &forest);
+        let order = block_order(alloc, &forest, &tree)?;
+        Ok(Rings {
+            sizes,
+            blocks,
+            independent,
+            order,
+            firsts: tree.firsts,
+            above: tree.above,
+        })
+    }
+
+    /// The block number of a bond.
+    pub fn block(&self, b: BondId) -> u32
+        requires { b.0 < length self.now.blocks }
+        ensures { slice_get self.now.blocks b.0 ≡ Some result }
+    {
+        self.blocks[b.0 as usize]
+    }
+
+    /// The atoms block by block.
+    pub fn order(&self) -> &[AtomId]
+        ensures { result.now ≡ self.now.order }
+    {
+        &self.order
+    }
+
+    /// The number of blocks: each block number is less.
+    pub fn block_count(&self) -> u32
+        ensures { result ≡ length self.now.firsts }
+    {
+        self.firsts.len() as u32
+    }
+
+    /// The first atom of a block.
+    pub fn first_of(&self, block: u32) -> AtomId
+        requires { block < length self.now.firsts }
+        ensures { slice_get self.now.firsts block ≡ Some result }
+    {
+        self.firsts[block as usize]
+    }
+
+    /// The block above an atom; none where the atom is the first of its connected part in the order.
+    pub fn block_above(&self, a: AtomId) -> Option<u32>
+        requires { a.0 < length self.now.above }
+        ensures { slice_get self.now.above a.0 ≡ Some result }
+    {
+        self.above[a.0 as usize]
+    }
+
+    /// The number of bonds less the number of atoms plus the number of connected parts.
+    pub fn independent(&self) -> u32
+        ensures { result ≡ self.now.independent }
+    {
+        self.independent
     }
 
     /// The number of bonds of the least closed path through a bond, or none.

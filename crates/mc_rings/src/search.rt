@@ -16,7 +16,7 @@ pub struct Search {
 }
 
 impl Search {
-    ghost use Rattle.std.specs.Prelude.{◌≡◌, ◌+◌, ◌^◌, ◌<◌, [], ◌∷◌, List, length, slice_set, replicate, None, Some, OnOk, IfOk};
+    ghost use Rattle.std.specs.Prelude.{◌≡◌, ◌+◌, ◌^◌, ◌<◌, [], ◌∷◌, List, length, slice_set, replicate, None, Some, OnOk, IfOk, IsTrue, false, ℕ, ◌⊎◌};
     ghost use Rattle.mc_base.specs.declared.ids.AtomId.{AtomId as Atom};
     ghost use Rattle.mc_rings.specs.Distances.{Mark, AreDistances};
     ghost use Rattle.mc_rings.specs.Levels.{unmarked, Between, Keeps, Reaches, LevelDone, AtomDone};
@@ -87,20 +87,37 @@ impl Search {
         Ok(())
     }
 
-    /// The atoms of the next level, which are then the current ones.
-    fn take_next(&mut self, alloc: Global) -> Vec<AtomId>
+    /// The atoms of the next level are the current ones from now on.
+    fn take_next(&mut self, current: &mut Vec<AtomId>)
         ensures marks { self.new.marks.items ≡ self.old.marks.items }
         ensures empty { self.new.next.items ≡ [] }
-        ensures next { result.items ≡ self.old.next.items }
+        ensures next { current.new.items ≡ self.old.next.items }
     {
-        mem::replace(&mut self.next, Vec::new(alloc))
+        mem::swap(current, &mut self.next);
+        self.next.clear();
+    }
+
+    /// Whether there is a level to explore, and an atom that hasn't been reached yet.
+    fn goes_on(&self, current: &[AtomId], end: AtomId) -> bool
+        requires { end.0 < length self.now.marks.items }
+        ensures more { IsTrue result → 0 < length current.now }
+        ensures done { result ≡ false → (length current.now ≡ 0) ⊎ ((d : ℕ) × (Mark self.now.marks.items end.0 d)) }
+    {
+        if current.is_empty() {
+            return false;
+        }
+        match self.marks[end.0 as usize] {
+            None => true,
+            Some(_) => false,
+        }
     }
 }
 
 /// For each atom the least number of steps from the bond's first end to it, where no step leads
-/// along the bond to its second end; none where there is no such way.
+/// along the bond to its second end, as far as the second end; none where there is no such way.
 pub fn distances(alloc: Global, mol: &Mol, bond: Bond) -> Result<Vec<Option<u32>>, NoMemory>
-    requires { bond.first.0 < length mol.now.atoms }
+    requires first { bond.first.0 < length mol.now.atoms }
+    requires second { bond.second.0 < length mol.now.atoms }
     ensures count { IfOk result (λ marks. length marks.items ≡ length mol.now.atoms) }
     ensures few { IfOk result (λ marks. (a d : ℕ) → Mark marks.items a d → d ≤ 1000) }
     ensures distances { IfOk result (λ marks. AreDistances mol.now.bonds bond.first.0 bond.second.0 marks.items) }
@@ -108,9 +125,9 @@ pub fn distances(alloc: Global, mol: &Mol, bond: Bond) -> Result<Vec<Option<u32>
     let mut search = Search::new(alloc, mol.atom_count() as usize, bond.first)?;
     let mut current = vec![in alloc; bond.first]?;
     let mut level = 0;
-    'levels: while !current.is_empty() {
+    'levels: while search.goes_on(&current, bond.second) {
         search.explore_all(mol, bond, level, &current)?;
-        current = search.take_next(alloc);
+        search.take_next(&mut current);
         level += 1;
     }
     Ok(search.marks)

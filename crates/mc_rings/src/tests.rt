@@ -1,3 +1,4 @@
+use crate::order_checks::{block, check_order};
 use crate::{Rings, may_be_centre};
 use mc_base::{AtomId, BondId};
 use mc_elements::Element;
@@ -39,7 +40,7 @@ fn add(mol: &mut Mol, u: u32, v: u32, order: u8) -> bool {
 }
 
 /// The molecule with these single bonds.
-fn molecule(
+pub fn molecule(
     rt: &(impl Abort + AllocGlobal),
     count: u32,
     pairs: &[(u32, u32)],
@@ -63,6 +64,16 @@ fn check_sizes(
         assert_eq!(rt; rings.ring_size(BondId(k as u32)).unwrap_or(0), *size);
         assert_eq!(rt; rings.is_bridge(BondId(k as u32)), *size == 0);
     }
+    Ok(())
+}
+
+fn check_independent(
+    rt: &(impl Abort + AllocGlobal),
+    mol: &Mol,
+    count: u32,
+) -> Result<(), mc_base::NoMemory> {
+    let rings = Rings::of(rt.alloc(), mol)?;
+    assert_eq!(rt; rings.independent(), count);
     Ok(())
 }
 
@@ -124,6 +135,75 @@ fn ring_sizes(rt: HostRuntime) -> Result<(), Fail> {
     check_sizes(&rt, &parts, &[0, 3, 3, 3])?;
     let empty = molecule(&rt, 0, &[])?;
     check_sizes(&rt, &empty, &[])?;
+    check_independent(&rt, &joined, 2)?;
+    check_independent(&rt, &shared, 2)?;
+    check_independent(&rt, &across, 2)?;
+    check_independent(&rt, &cube, 5)?;
+    check_independent(&rt, &parts, 1)?;
+    check_independent(&rt, &empty, 0)?;
+    Ok(())
+}
+
+/// Bonds have equal block numbers exactly where the listed ones are equal, and the block order is one.
+fn check_blocks(
+    rt: &(impl Abort + AllocGlobal),
+    mol: &Mol,
+    count: u32,
+    numbers: &[u32],
+) -> Result<(), mc_base::NoMemory> {
+    let rings = Rings::of(rt.alloc(), mol)?;
+    assert_eq!(rt; mol.bond_count() as usize, numbers.len());
+    assert_eq!(rt; rings.block_count(), count);
+    for (i, number) in numbers.iter().enumerate() {
+        for (j, other) in numbers.iter().enumerate() {
+            let same = block(mol, &rings, i as u32) == block(mol, &rings, j as u32);
+            assert_eq!(rt; same, *number == *other);
+        }
+    }
+    check_order(rt, mol, &rings)
+}
+
+#[test]
+fn blocks(rt: HostRuntime) -> Result<(), Fail> {
+    // two rings of three, joined by a bond: C1CC1C1CC1
+    let joined = molecule(
+        &rt,
+        6,
+        &[(0, 1), (1, 2), (0, 2), (2, 3), (3, 4), (4, 5), (3, 5)],
+    )?;
+    check_blocks(&rt, &joined, 3, &[0, 0, 0, 1, 2, 2, 2])?;
+    // two rings that share a bond
+    let fused = molecule(&rt, 4, &[(0, 1), (1, 2), (2, 3), (3, 0), (0, 2)])?;
+    check_blocks(&rt, &fused, 1, &[0, 0, 0, 0, 0])?;
+    // two rings that share an atom
+    let spiro = molecule(&rt, 5, &[(0, 1), (1, 2), (2, 0), (2, 3), (3, 4), (4, 2)])?;
+    check_blocks(&rt, &spiro, 2, &[0, 0, 0, 1, 1, 1])?;
+    // a ring of three rings
+    let ring_of_rings = molecule(
+        &rt,
+        6,
+        &[
+            (0, 1),
+            (1, 2),
+            (2, 0),
+            (2, 3),
+            (3, 4),
+            (4, 2),
+            (4, 5),
+            (5, 0),
+            (0, 4),
+        ],
+    )?;
+    check_blocks(&rt, &ring_of_rings, 1, &[0, 0, 0, 0, 0, 0, 0, 0, 0])?;
+    // three parts, one of them a single atom
+    let parts = molecule(&rt, 6, &[(0, 1), (2, 3), (3, 4), (4, 2)])?;
+    check_blocks(&rt, &parts, 2, &[0, 1, 1, 1])?;
+    // a triangle with a tail at each atom
+    let tails = molecule(&rt, 6, &[(3, 0), (0, 1), (4, 1), (1, 2), (5, 2), (2, 0)])?;
+    check_blocks(&rt, &tails, 4, &[1, 0, 2, 0, 3, 0])?;
+    check_sizes(&rt, &tails, &[0, 3, 0, 3, 0, 3])?;
+    let empty = molecule(&rt, 0, &[])?;
+    check_blocks(&rt, &empty, 0, &[])?;
     Ok(())
 }
 

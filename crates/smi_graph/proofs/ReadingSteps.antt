@@ -4,7 +4,9 @@ use Rattle.std.specs.Prelude.{unwrap_or, option_to_list, IsNone}
 use Rattle.std.proofs.lemmas.List.{same_from_push, append-nil, reverse-append, length-append, length-reverse}
 use Rattle.smi_graph.specs.declared.role.Role.{Role}
 use Rattle.smi_graph.specs.declared.role.Role.TheVariants.{Atom, Bond, Ring, Enter, Leave, Dot}
-use Rattle.smi_graph.specs.Reading.{open_once_closed, return_atoms}
+use Rattle.smi_graph.specs.Order.{latest}
+use Rattle.smi_graph.specs.Bonds.{mark_of}
+use Rattle.smi_graph.specs.Reading.{open_once_closed, return_atoms, mark_in}
 
 get_or_tail : (xs : List (Option ℕ)) (d : ℕ) → get_or xs (suc d) None ≡ get_or (drop 1 xs) d None
 get_or_tail [] d = refl
@@ -31,3 +33,13 @@ pop_reversed [] new (Some x) e none = absurd (let l : 0 ≡ length new + 1 = ap 
 pop_reversed (y ∷ ys) new (Some x) e none =
     let p = same_from_push (reverse ys) new y x (sym (reverse-append (y ∷ []) ys) ∙ e) in
     record { rest = sym p.0; top = sym p.1 }
+
+-- the bond symbol directly before is the latest token, where that is one
+pub mark_of_is : (before : List Role) → mark_of before ≡ mark_in (latest before)
+mark_of_is [] = refl
+mark_of_is (Atom ∷ before) = refl
+mark_of_is (Bond mark ∷ before) = refl
+mark_of_is (Ring number ∷ before) = refl
+mark_of_is (Enter ∷ before) = refl
+mark_of_is (Leave ∷ before) = refl
+mark_of_is (Dot ∷ before) = refl

@@ -1,7 +1,10 @@
--- Which earlier atom an atom is joined to: OpenSMILES 1.0, section 3.3 (branches).
+-- Which atoms the tokens of a text join: OpenSMILES 1.0, sections 3.2 (bonds), 3.3 (branches) and 3.4 (rings).
 -- `before` is always the list of the tokens before a place, the latest first.
-use Rattle.std.specs.Prelude.{ℕ, ◌+◌, Bool, true, ◌&&◌, List, [], ◌∷◌, ◌++◌, Option, Some, None, nat_le, if◌then◌else◌}
+use Rattle.std.specs.Prelude.{ℕ, zero, suc, ◌+◌, ◌-◌, Bool, true, not, ◌&&◌, List, [], ◌∷◌, ◌++◌, Option, Some, None, ◌==◌, nat_le, length, if◌then◌else◌}
 use Rattle.mc_mol.specs.declared.parts.Bond as bond
+use Rattle.smi_lex.specs.declared.token.BondMark.{BondMark}
+use Rattle.smi_lex.specs.declared.token.BondMark.TheVariants.{Single, Double, Triple, Quadruple, Aromatic, Slash, Backslash}
+use Rattle.smi_graph.specs.declared.ring_end.RingEnd.{RingEnd}
 use Rattle.smi_graph.specs.declared.role.Role.{Role}
 use Rattle.smi_graph.specs.declared.role.Role.TheVariants.{Atom, Bond, Ring, Enter, Leave, Dot}
 
@@ -57,16 +60,92 @@ predecessor [] = None
 predecessor (Dot ∷ before) = None
 predecessor (k ∷ before) = latest_open [] (k ∷ before)
 
--- a single bond to an atom, where it has a predecessor
-abbrev pub bond_to : Option ℕ → ℕ → List bond.Bond
-bond_to None a = []
-bond_to (Some p) a = record { first = record { 0 = p }; second = record { 0 = a }; order = 1 } ∷ []
+-- The order of a bond
+
+-- the order that a bond symbol says; `:` says none, and is read as a single bond
+abbrev pub order_of_mark : BondMark → ℕ
+order_of_mark Single = 1
+order_of_mark Double = 2
+order_of_mark Triple = 3
+order_of_mark Quadruple = 4
+order_of_mark Aromatic = 1
+order_of_mark Slash = 1
+order_of_mark Backslash = 1
+
+-- a bond without a symbol is single
+abbrev pub order_of : Option BondMark → ℕ
+order_of None = 1
+order_of (Some mark) = order_of_mark mark
+
+-- the bond symbol that stands directly before
+abbrev pub mark_of : List Role → Option BondMark
+mark_of [] = None
+mark_of (Bond mark ∷ before) = Some mark
+mark_of (Atom ∷ before) = None
+mark_of (Ring number ∷ before) = None
+mark_of (Enter ∷ before) = None
+mark_of (Leave ∷ before) = None
+mark_of (Dot ∷ before) = None
+
+-- the first of two values that is there
+abbrev pub or_else : {A : Type 0} → Option A → Option A → Option A
+or_else None other = other
+or_else (Some x) other = Some x
+
+-- Ring numbers
+
+-- how often a ring number stands
+abbrev pub ring_count : ℕ → List Role → ℕ
+ring_count n [] = 0
+ring_count n (Ring number ∷ before) = if number == n then suc (ring_count n before) else ring_count n before
+ring_count n (Atom ∷ before) = ring_count n before
+ring_count n (Bond mark ∷ before) = ring_count n before
+ring_count n (Enter ∷ before) = ring_count n before
+ring_count n (Leave ∷ before) = ring_count n before
+ring_count n (Dot ∷ before) = ring_count n before
+
+abbrev pub is_even : ℕ → Bool
+is_even zero = true
+is_even (suc n) = not (is_even n)
+
+-- A ring number behind these tokens: which token it is, the latest atom, beside which it stands, and the symbol before it.
+abbrev pub ring_end : List Role → RingEnd
+ring_end before = record { token = length before; atom = atom_count before - 1; mark = mark_of before }
+
+-- where a ring number stood last
+abbrev pub latest_end : ℕ → List Role → Option RingEnd
+latest_end n [] = None
+latest_end n (Ring number ∷ before) = if number == n then Some (ring_end before) else latest_end n before
+latest_end n (Atom ∷ before) = latest_end n before
+latest_end n (Bond mark ∷ before) = latest_end n before
+latest_end n (Enter ∷ before) = latest_end n before
+latest_end n (Leave ∷ before) = latest_end n before
+latest_end n (Dot ∷ before) = latest_end n before
+
+-- Where a ring number is open: a number that an even count of equal numbers precedes opens, and the next one closes it.
+abbrev pub open_end : ℕ → List Role → Option RingEnd
+open_end n before = if is_even (ring_count n before) then None else latest_end n before
+
+-- The bonds
+
+abbrev pub bond_between : ℕ → ℕ → ℕ → bond.Bond
+bond_between p a order = record { first = record { 0 = p }; second = record { 0 = a }; order = order }
+
+-- the bond from an atom's predecessor, where it has one
+abbrev pub chain_bond : Option ℕ → ℕ → Option BondMark → List bond.Bond
+chain_bond None a mark = []
+chain_bond (Some p) a mark = bond_between p a (order_of mark) ∷ []
+
+-- The bond that a closing number completes, from the atom of the opening number; either of them may have the symbol.
+abbrev pub ring_bond : Option RingEnd → RingEnd → List bond.Bond
+ring_bond None here = []
+ring_bond (Some other) here = bond_between other.atom here.atom (order_of (or_else other.mark here.mark)) ∷ []
 
 -- the bond that a token completes, behind the tokens before it
 abbrev pub bonds_at : List Role → Role → List bond.Bond
-bonds_at before Atom = bond_to (predecessor before) (atom_count before)
+bonds_at before Atom = chain_bond (predecessor before) (atom_count before) (mark_of before)
+bonds_at before (Ring number) = ring_bond (open_end number before) (ring_end before)
 bonds_at before (Bond mark) = []
-bonds_at before (Ring number) = []
 bonds_at before Enter = []
 bonds_at before Leave = []
 bonds_at before Dot = []

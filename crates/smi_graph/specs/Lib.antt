@@ -1,7 +1,8 @@
 pub mod Roles
 pub mod Order
 pub mod Bonds
+pub mod RingRules
 pub mod Reading
 pub mod Rules
-pub mod Stops
-pub mod Later
+pub mod Skeletons
+pub mod Faults

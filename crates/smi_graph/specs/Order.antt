@@ -1,6 +1,6 @@
 -- Which tokens may stand where: OpenSMILES 1.0, section 2 (grammar), as a table of what may follow what.
 -- `before` is always the list of the tokens before a place, the latest first.
-use Rattle.std.specs.Prelude.{◌≡◌, ℕ, ◌+◌, ◌<◌, zero, suc, Bool, true, false, not, ◌&&◌, ◌||◌, List, [], ◌∷◌, Option, Some, None, slice_get, take, drop, reverse, is_none}
+use Rattle.std.specs.Prelude.{ℕ, ◌+◌, zero, suc, Bool, true, false, not, ◌&&◌, ◌||◌, List, [], ◌∷◌, Option, Some, None, slice_get, take, drop, reverse, is_none}
 use Rattle.smi_graph.specs.declared.role.Role.{Role}
 use Rattle.smi_graph.specs.declared.role.Role.TheVariants.{Atom, Bond, Ring, Enter, Leave, Dot}
 
@@ -122,10 +122,6 @@ tokens_before ks i = reverse (take i ks)
 abbrev pub misplaced_at : List Role → ℕ → Bool
 misplaced_at ks i = is_misplaced (tokens_before ks i) (slice_get ks i)
 
--- nothing is misplaced at the first n places
-abbrev pub AllPlaced : List Role → ℕ → Type 0
-AllPlaced ks n = (j : ℕ) → j < n → misplaced_at ks j ≡ false
-
 -- no `)` among these tokens closes a branch that was open before them and `level` more
 abbrev pub stays_open : ℕ → List Role → Bool
 stays_open level [] = true
@@ -144,7 +140,3 @@ is_enter next = false
 -- a `(` stands at place i that no later `)` closes
 abbrev pub unclosed_at : List Role → ℕ → Bool
 unclosed_at ks i = is_enter (slice_get ks i) && stays_open 0 (drop (i + 1) ks)
-
--- each `(` at the first n places is closed
-abbrev pub AllClosed : List Role → ℕ → Type 0
-AllClosed ks n = (j : ℕ) → j < n → unclosed_at ks j ≡ false

@@ -1,11 +1,17 @@
 -- What a reader keeps of the tokens so far.
-use Rattle.std.specs.Prelude.{◌≡◌, ℕ, zero, suc, Bool, true, false, List, [], ◌∷◌, Option, Some, None, reverse, drop}
+use Rattle.std.specs.Prelude.{◌≡◌, ◌<◌, ◌≤◌, ◌+◌, ◌-◌, ℕ, zero, suc, Bool, true, false, List, [], ◌∷◌, Option, Some, None, get_or, length, reverse, drop, min, nat_lt, All, AllPairs, if◌then◌else◌}
+use Rattle.mc_mol.specs.declared.parts.Bond as bond
+use Rattle.smi_graph.specs.declared.skeleton.SkelAtom.{SkelAtom}
+use Rattle.smi_graph.specs.declared.ring_end.RingEnd.{RingEnd}
+use Rattle.smi_lex.specs.declared.token.BondMark.{BondMark}
 use Rattle.smi_graph.specs.declared.role.Role.{Role}
 use Rattle.smi_graph.specs.declared.role.Role.TheVariants.{Atom, Bond, Ring, Enter, Leave, Dot}
 use Rattle.smi_graph.specs.declared.order.Place.{Place}
-use Rattle.smi_graph.specs.declared.skeleton.Builder.{Builder}
+use Rattle.smi_graph.specs.declared.builder.Builder.{Builder}
+use Rattle.smi_graph.specs.declared.reading.Reading.{Reading}
+use Rattle.smi_graph.specs.RingRules.{clash_at, pair_again_at}
 use Rattle.smi_graph.specs.Order.{latest, is_stray_bond, depth}
-use Rattle.smi_graph.specs.Bonds.{atom_count, bonds_of}
+use Rattle.smi_graph.specs.Bonds.{atom_count, open_end, bonds_of}
 
 -- the place is the one behind these tokens, the latest first
 pub record IsBehind (place : Place) (before : List Role) : Type 0 where
@@ -44,10 +50,87 @@ abbrev pub unless_dot : Bool → Option ℕ → Option ℕ
 unless_dot true atom = None
 unless_dot false atom = atom
 
--- the builder has the bonds of these tokens, the latest first
+-- no place below this one passes
+abbrev pub NoneBelow : (ℕ → Bool) → ℕ → Type 0
+NoneBelow p n = (j : ℕ) → j < n → p j ≡ false
+
+-- the first of n places that passes, or none of them does
+abbrev pub IsFirstOf : (ℕ → Bool) → ℕ → Option ℕ → Type 0
+IsFirstOf p n None = NoneBelow p n
+IsFirstOf p n (Some i) = (i < n) × (p i ≡ true) × NoneBelow p i
+
+-- the first place from one on, below n, that passes, or none of them does
+abbrev pub IsFirstFrom : (ℕ → Bool) → ℕ → ℕ → Option ℕ → Type 0
+IsFirstFrom p from n None = (j : ℕ) → from ≤ j → j < n → p j ≡ false
+IsFirstFrom p from n (Some i) = (from ≤ i) × (i < n) × (p i ≡ true) × ((j : ℕ) → from ≤ j → j < i → p j ≡ false)
+
+-- how many `)` among these tokens close a branch that was open before them
+abbrev pub unmatched_with : Role → ℕ → ℕ
+unmatched_with Leave n = n + 1
+unmatched_with Enter n = n - 1
+unmatched_with Atom n = n
+unmatched_with (Bond mark) n = n
+unmatched_with (Ring number) n = n
+unmatched_with Dot n = n
+
+abbrev pub unmatched : List Role → ℕ
+unmatched [] = 0
+unmatched (k ∷ ks) = unmatched_with k (unmatched ks)
+
+-- the bond symbol that a token is
+abbrev pub mark_in : Option Role → Option BondMark
+mark_in (Some (Bond mark)) = Some mark
+mark_in other = None
+
+-- where a ring number is open behind one more of it
+abbrev pub turned : Option RingEnd → RingEnd → Option RingEnd
+turned None here = Some here
+turned (Some other) here = None
+
+-- the lesser of two tokens, where there are any
+abbrev pub lesser : Option ℕ → Option RingEnd → Option ℕ
+lesser first None = first
+lesser None (Some end) = Some end.token
+lesser (Some first) (Some end) = Some (if nat_lt end.token first then end.token else first)
+
+-- the first token of the ends of the numbers below this one, or none where there are none
+abbrev pub IsFirstEnd : List (Option RingEnd) → ℕ → Option ℕ → Type 0
+IsFirstEnd ends below None = (n : ℕ) → n < below → get_or ends n None ≡ None
+IsFirstEnd ends below (Some token) =
+    ((n : ℕ) × (end : RingEnd) × (get_or ends n None ≡ Some end) × (end.token ≡ token))
+    × ((n : ℕ) (end : RingEnd) → n < below → get_or ends n None ≡ Some end → token ≤ end.token)
+
+-- the first token whose ring number stays open behind these tokens, or none where none does
+abbrev pub IsFirstOpen : List Role → Option ℕ → Type 0
+IsFirstOpen before None = (n : ℕ) → open_end n before ≡ None
+IsFirstOpen before (Some token) =
+    ((n : ℕ) × (end : RingEnd) × (open_end n before ≡ Some end) × (end.token ≡ token))
+    × ((n : ℕ) (end : RingEnd) → open_end n before ≡ Some end → token ≤ end.token)
+
+-- No bond is to a later atom than the bond behind it, and none of them to one behind this atom; each goes
+-- back, or stays where it is. So the bonds of this atom are the last ones.
+pub record RisesTo (atom : ℕ) (bonds : List bond.Bond) : Type 0 where
+  pub back : All (λ (b : bond.Bond). b.first.0 ≤ b.second.0) bonds
+  pub below : All (λ (b : bond.Bond). b.second.0 ≤ atom) bonds
+  pub rise : AllPairs (λ (b c : bond.Bond). b.second.0 ≤ c.second.0) bonds
+
+-- an atom as 16 bits hold its isotope and class
+abbrev pub held_atom : SkelAtom → SkelAtom
+held_atom atom = record atom { isotope = min atom.isotope 65535; class = min atom.class 65535 }
+
+-- The builder has the bonds of these tokens, the latest first, and where each ring number is open.
 pub record Reads (b : Builder) (before : List Role) : Type 0 where
   pub bonds : b.bonds.items ≡ bonds_of before
-  pub count : atom_count before ≡ b.count
+  pub tokens : b.tokens ≡ length before
+  pub count : b.count ≡ atom_count before
   pub last : b.last ≡ open_once_closed 0 before
-  pub after_dot : b.after_dot ≡ is_dot (latest before)
+  pub latest : b.latest ≡ latest before
   pub returns : b.returns.items ≡ reverse (return_atoms before)
+  pub ends : (n : ℕ) → get_or b.ends.items n None ≡ open_end n before
+
+-- what a reading says of these tokens
+pub record IsReadingOf (ks : List Role) (reading : Reading) : Type 0 where
+  pub bonds : reading.bonds.items ≡ bonds_of (reverse ks)
+  pub unclosed : IsFirstOpen (reverse ks) reading.unclosed
+  pub clash : IsFirstOf (clash_at ks) (length ks) reading.clash
+  pub pair : IsFirstOf (pair_again_at ks) (length ks) reading.pair

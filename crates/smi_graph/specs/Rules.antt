@@ -1,38 +1,137 @@
 -- The rules of the kinds that speak of a text's tokens: at which places each kind stands.
 use Rattle.std.specs.List.{list_all}
-use Rattle.std.specs.Prelude.{◌≡◌, ℕ, ◌+◌, ◌≤◌, ◌<◌, Bool, true, false, ◌&&◌, ◌||◌, List, ◌==◌, nat_le, slice_index_or, map, length, reverse}
+use Rattle.std.specs.Prelude.{◌≡◌, ℕ, ◌+◌, ◌-◌, ◌≤◌, ◌<◌, Bool, true, false, not, ◌&&◌, List, [], Option, Some, None, nat_lt, slice_get, slice_index_or, is_none, map, length, reverse, nat_abs}
 use Rattle.mc_base.specs.declared.kind.Kind.{Kind}
-use Rattle.mc_base.specs.declared.kind.Kind.TheVariants.{NotBuilt, BadOrder, ParenOpen}
-use Rattle.smi_lex.specs.Tokens.{tokens}
+use Rattle.mc_base.specs.declared.kind.Kind.TheVariants.{NotBuilt, BadToken, Wildcard, OtherChirality, BadOrder, ParenOpen, RingOpen, RingClash, RingPair, LimitAtoms, LimitBonds, LimitRings, LimitIsotope, LimitClass, LimitCharge}
+use Rattle.mc_mol.specs.declared.parts.Bond as bond
+use Rattle.mc_mol.specs.Parts.{independent_rings}
+use Rattle.smi_lex.specs.declared.token.BondMark.{BondMark}
+use Rattle.smi_lex.specs.declared.token.BondMark.TheVariants.{Single, Double, Triple, Quadruple, Aromatic, Slash, Backslash}
+use Rattle.smi_lex.specs.declared.token.TokenKind.{TokenKind}
+use Rattle.smi_lex.specs.declared.token.TokenKind.TheVariants as kind
+use Rattle.smi_lex.specs.Reading.{IsCause}
+use Rattle.smi_lex.specs.Tokens.{tokens, unread}
+use Rattle.smi_graph.specs.declared.ring_end.RingEnd.{RingEnd}
 use Rattle.smi_graph.specs.declared.role.Role.{Role}
-use Rattle.smi_graph.specs.declared.skeleton.Skeleton.{Skeleton}
-use Rattle.smi_graph.specs.Roles.{roles, elements}
+use Rattle.smi_graph.specs.declared.skeleton.SkelAtom.{SkelAtom}
+use Rattle.smi_graph.specs.Roles.{roles, atoms_of}
 use Rattle.smi_graph.specs.Order.{misplaced_at, unclosed_at}
-use Rattle.smi_graph.specs.Bonds.{bonds_of}
-
--- Only texts of bare C, N and O with branches are read today, and only short ones.
-abbrev pub is_built_byte : ℕ → Bool
-is_built_byte b = b == 67 || b == 78 || b == 79 || b == 40 || b == 41
-
-abbrev pub is_built : List ℕ → Bool
-is_built text = list_all is_built_byte text && nat_le (length text) 999
+use Rattle.smi_graph.specs.Bonds.{open_end, bonds_of}
+use Rattle.smi_graph.specs.RingRules.{clash_at, pair_again_at}
 
 abbrev pub roles_in : List ℕ → List Role
 roles_in text = roles (tokens text)
+
+abbrev pub bonds_in : List ℕ → List bond.Bond
+bonds_in text = bonds_of (reverse (roles_in text))
+
+abbrev pub atoms_in : List ℕ → List SkelAtom
+atoms_in text = atoms_of (tokens text)
 
 -- the byte at which token i stands, from 1; the end is the byte behind the text
 abbrev pub byte_place : List ℕ → ℕ → ℕ
 byte_place text i = slice_index_or (map (λ token. token.span.from) (tokens text)) i (length text) + 1
 
--- A kind stands at a place of a text. What `is_built` lets through has no other fault of its tokens.
-abbrev pub BreaksAt : List ℕ → Kind → ℕ → Type 0
-BreaksAt text NotBuilt place = (place ≡ 1) × (is_built text ≡ false)
-BreaksAt text BadOrder place = (i : ℕ) × (i ≤ length (roles_in text)) × (place ≡ byte_place text i) × (misplaced_at (roles_in text) i ≡ true)
-BreaksAt text ParenOpen place = (i : ℕ) × (i < length (roles_in text)) × (place ≡ byte_place text i) × (unclosed_at (roles_in text) i ≡ true)
-BreaksAt text _ place = ⊥
+-- What isn't read today
 
--- the skeleton of a text of which no kind stands: its atoms and its bonds
-pub record IsSkeleton (text : List ℕ) (skeleton : Skeleton) : Type 0 where
-  pub accepted : (kind : Kind) (place : ℕ) → BreaksAt text kind place → ⊥
-  pub elements : skeleton.elements.items ≡ elements (tokens text)
-  pub bonds : skeleton.bonds.items ≡ bonds_of (reverse (roles_in text))
+abbrev pub is_built_mark : BondMark → Bool
+is_built_mark Single = true
+is_built_mark Double = true
+is_built_mark Triple = true
+is_built_mark Quadruple = true
+is_built_mark Aromatic = false
+is_built_mark Slash = false
+is_built_mark Backslash = false
+
+-- no lower-case atom, chirality, `:`, `/` or `\` is read today
+abbrev pub is_built_kind : TokenKind → Bool
+is_built_kind (kind.Bare element lower) = not lower
+is_built_kind (kind.Bracket element lower isotope chiral hydrogens charge class) = not lower && is_none chiral
+is_built_kind (kind.Bond mark) = is_built_mark mark
+is_built_kind (kind.Ring number) = true
+is_built_kind kind.Enter = true
+is_built_kind kind.Leave = true
+is_built_kind kind.Dot = true
+
+abbrev pub is_built : List ℕ → Bool
+is_built text = list_all (λ token. is_built_kind token.kind) (tokens text)
+
+-- The limits (this project's own)
+
+abbrev pub limit : ℕ
+limit = 999
+
+abbrev pub ring_limit : ℕ
+ring_limit = 99
+
+abbrev pub charge_limit : ℕ
+charge_limit = 15
+
+abbrev pub is_heavy : SkelAtom → Bool
+is_heavy atom = nat_lt limit atom.isotope
+
+abbrev pub is_high_class : SkelAtom → Bool
+is_high_class atom = nat_lt limit atom.class
+
+abbrev pub is_overcharged : SkelAtom → Bool
+is_overcharged atom = nat_lt charge_limit (nat_abs atom.charge)
+
+abbrev pub fails : (SkelAtom → Bool) → Option SkelAtom → Bool
+fails p None = false
+fails p (Some atom) = p atom
+
+-- The rules
+
+-- the text is read up to a byte at which no token begins
+abbrev pub StopsAt : List ℕ → Kind → ℕ → Type 0
+StopsAt text kind place = (0 < length (unread text)) × (place ≡ length text - length (unread text) + 1) × IsCause kind (unread text)
+
+-- A kind stands at token i, or at the end behind the tokens. A ring number that is open behind all tokens stays open.
+abbrev pub WrongAt : List Role → Kind → ℕ → Type 0
+WrongAt ks BadOrder i = (i ≤ length ks) × (misplaced_at ks i ≡ true)
+WrongAt ks ParenOpen i = unclosed_at ks i ≡ true
+WrongAt ks RingOpen i = (n : ℕ) × (end : RingEnd) × (open_end n (reverse ks) ≡ Some end) × (end.token ≡ i)
+WrongAt ks RingClash i = clash_at ks i ≡ true
+WrongAt ks RingPair i = pair_again_at ks i ≡ true
+WrongAt ks _ i = ⊥
+
+-- a count is above its limit, and is the place
+abbrev pub IsAbove : ℕ → ℕ → ℕ → Type 0
+IsAbove count most place = (place ≡ count) × (most < count)
+
+-- some atom is wrong by a test; atoms count from 1
+abbrev pub AtomFails : List SkelAtom → (SkelAtom → Bool) → ℕ → Type 0
+AtomFails atoms p place = (k : ℕ) × (place ≡ k + 1) × (fails p (slice_get atoms k) ≡ true)
+
+-- a kind stands by a limit
+abbrev pub BeyondAt : List SkelAtom → List bond.Bond → Kind → ℕ → Type 0
+BeyondAt atoms bonds LimitAtoms place = IsAbove (length atoms) limit place
+BeyondAt atoms bonds LimitBonds place = IsAbove (length bonds) limit place
+BeyondAt atoms bonds LimitRings place = IsAbove (independent_rings bonds (length atoms)) ring_limit place
+BeyondAt atoms bonds LimitIsotope place = AtomFails atoms is_heavy place
+BeyondAt atoms bonds LimitClass place = AtomFails atoms is_high_class place
+BeyondAt atoms bonds LimitCharge place = AtomFails atoms is_overcharged place
+BeyondAt atoms bonds _ place = ⊥
+
+-- a kind stands at the byte of a token, or behind the text
+abbrev pub TokenFails : List ℕ → Kind → ℕ → Type 0
+TokenFails text kind place = (i : ℕ) × WrongAt (roles_in text) kind i × (place ≡ byte_place text i)
+
+-- A kind stands at a place of a text.
+abbrev pub BreaksAt : List ℕ → Kind → ℕ → Type 0
+BreaksAt text NotBuilt place = (place ≡ 1) × (unread text ≡ []) × (is_built text ≡ false)
+BreaksAt text BadToken place = StopsAt text BadToken place
+BreaksAt text Wildcard place = StopsAt text Wildcard place
+BreaksAt text OtherChirality place = StopsAt text OtherChirality place
+BreaksAt text BadOrder place = TokenFails text BadOrder place
+BreaksAt text ParenOpen place = TokenFails text ParenOpen place
+BreaksAt text RingOpen place = TokenFails text RingOpen place
+BreaksAt text RingClash place = TokenFails text RingClash place
+BreaksAt text RingPair place = TokenFails text RingPair place
+BreaksAt text LimitAtoms place = BeyondAt (atoms_in text) (bonds_in text) LimitAtoms place
+BreaksAt text LimitBonds place = BeyondAt (atoms_in text) (bonds_in text) LimitBonds place
+BreaksAt text LimitRings place = BeyondAt (atoms_in text) (bonds_in text) LimitRings place
+BreaksAt text LimitIsotope place = BeyondAt (atoms_in text) (bonds_in text) LimitIsotope place
+BreaksAt text LimitClass place = BeyondAt (atoms_in text) (bonds_in text) LimitClass place
+BreaksAt text LimitCharge place = BeyondAt (atoms_in text) (bonds_in text) LimitCharge place
+BreaksAt text _ place = ⊥

@@ -1,6 +1,6 @@
-ghost use Rattle.std.specs.Prelude.{◌≡◌, ℕ, ◌↔◌, ◌+◌, ◌^◌, ◌≤◌, ◌<◌, ◌∷◌, List, IfSome, IfNone, IsTrue, length, false, true, Some, None};
-ghost use Rattle.smi_graph.specs.declared.role.Role.{Role};
-ghost use Rattle.smi_graph.specs.Order.{after_start, after_bond, after_enter, after_leave, after_dot, may_follow, depth_behind, is_ring, is_bond, holds_ring, is_enter, misplaced_at, AllPlaced, stays_open, unclosed_at, AllClosed};
+ghost use Rattle.std.specs.Prelude.{◌≡◌, ℕ, Bool, ◌+◌, ◌^◌, ◌≤◌, ◌<◌, ◌&&◌, nat_le, IfSome, length, Some};
+ghost use Rattle.smi_graph.specs.Order.{after_start, after_bond, after_enter, after_leave, after_dot, may_follow, depth_behind, is_ring, is_bond, holds_ring, is_enter, misplaced_at, unclosed_at};
+ghost use Rattle.smi_graph.specs.Reading.{IsFirstOf, IsFirstFrom, unmatched_with};
 
 use crate::Role;
 
@@ -163,9 +163,7 @@ impl Place {
 /// The first place at which a token, or the end, may not stand.
 pub fn first_misplaced(roles: &[Role]) -> Option<usize>
     requires { length roles.now < 2 ^ 32 }
-    ensures found { IfSome result (λ i. (i ≤ length roles.now) × (misplaced_at roles.now i ≡ true)) }
-    ensures first { IfSome result (λ i. AllPlaced roles.now i) }
-    ensures none { IfNone result (AllPlaced roles.now (length roles.now + 1)) }
+    ensures { IsFirstOf (misplaced_at roles.now) (length roles.now + 1) result }
 {
     let mut place = Place::start();
     for (i, role) in roles.iter().enumerate() {
@@ -181,42 +179,48 @@ pub fn first_misplaced(roles: &[Role]) -> Option<usize>
     }
 }
 
-/// Whether no `)` among these tokens closes a branch that was open before them.
-fn stays_open(roles: &[Role]) -> bool
-    requires { length roles.now < 2 ^ 32 }
-    ensures { result ≡ stays_open 0 roles.now }
-{
-    let mut level = 0usize;
-    for role in roles {
-        match depth_behind(level, *role) {
-            Some(next) => level = next,
-            None => return false,
-        }
-    }
-    true
-}
-
-fn is_enter(role: Role) -> bool
-    ensures { result ≡ is_enter (Some role) }
+/// The `)` among some tokens that close a branch which was open before them, with one more token in front.
+fn unmatched_with(role: Role, unmatched: usize) -> usize
+    requires { unmatched < 2 ^ 32 }
+    ensures value { result ≡ unmatched_with role unmatched }
+    ensures bound { result ≤ unmatched + 1 }
 {
     match role {
-        Role::Enter => true,
+        Role::Leave => unmatched + 1,
+        Role::Enter => unmatched.saturating_sub(1),
+        Role::Atom | Role::Bond(_) | Role::Ring(_) | Role::Dot => unmatched,
+    }
+}
+
+/// Whether a token is a `(` that no `)` behind it closes.
+fn is_unclosed(role: Role, unmatched: usize) -> bool
+    ensures { result ≡ is_enter (Some role) && nat_le unmatched 0 }
+{
+    match role {
+        Role::Enter => unmatched == 0,
         Role::Atom | Role::Bond(_) | Role::Ring(_) | Role::Leave | Role::Dot => false,
     }
 }
 
-/// The first `(` that is never closed.
-#[tactic(auto, using(std::proofs::lemmas::Option::gets))]
+/// The first place that passes, with one more place in front.
+fn earlier(first: Option<usize>, holds: bool, i: usize) -> Option<usize>
+    ensures { (p : ℕ → Bool) (n : ℕ) → i < n → IsFirstFrom p (i + 1) n first → p i ≡ holds → IsFirstFrom p i n result }
+{
+    if holds { Some(i) } else { first }
+}
+
+/// The first `(` that is never closed: going back, each `(` is closed by the nearest `)` that closes nothing yet.
 pub fn first_unclosed(roles: &[Role]) -> Option<usize>
     requires { length roles.now < 2 ^ 32 }
-    ensures found { IfSome result (λ i. (i < length roles.now) × (unclosed_at roles.now i ≡ true)) }
-    ensures first { IfSome result (λ i. AllClosed roles.now i) }
-    ensures none { IfNone result (AllClosed roles.now (length roles.now)) }
+    ensures { IsFirstOf (unclosed_at roles.now) (length roles.now) result }
 {
-    for (i, role) in roles.iter().enumerate() {
-        if is_enter(*role) && stays_open(&roles[i + 1..]) {
-            return Some(i);
-        }
+    let mut first = None;
+    let mut unmatched = 0usize;
+    let mut i = roles.len();
+    while i > 0 {
+        i -= 1;
+        first = earlier(first, is_unclosed(roles[i], unmatched), i);
+        unmatched = unmatched_with(roles[i], unmatched);
     }
-    None
+    first
 }

@@ -1,27 +1,26 @@
 ghost use Rattle.std.specs.Prelude.{◌≡◌, ◌≤◌, ◌<◌, ◌^◌, ◌-◌, IfOk, IfErr, length};
 ghost use Rattle.smi_lex.specs.Tokens.{tokens};
-ghost use Rattle.smi_graph.specs.Rules.{IsSkeleton, byte_place};
-ghost use Rattle.smi_graph.specs.Later.{JoinLater};
-ghost use Rattle.smi_graph.specs.Stops.{IsBroken};
+ghost use Rattle.smi_graph.specs.Rules.{byte_place};
+ghost use Rattle.smi_graph.specs.Skeletons.{IsSkeleton, IsBroken};
 
 use crate::Skeleton;
-use crate::built::is_built;
-use crate::order::{first_misplaced, first_unclosed};
-use crate::role::{elements_of, roles_of};
-use crate::skeleton::bonds_of;
-use crate::tokens::tokens_of;
+use crate::limits::limit_fault;
+use crate::reading::read_roles;
+use crate::role::roles_of;
+use crate::skeleton::atoms_of;
+use crate::structure::structure_fault;
+use crate::tokens::{are_built, tokens_of};
 use mc_base::{Kind, Refusal, Stop};
 use smi_lex::Token;
 use std::alloc::Global;
 
 /// The byte at which token i stands, from 1; the end is the byte behind the text.
-fn byte_place(text: &[u8], found: &[Token], i: usize) -> u32
+fn byte_place(text: &[u8], found: &[Token], i: u32) -> u32
     requires text { length text.now < 2 ^ 32 - 1 }
     requires tokens { found.now ≡ tokens text.now }
-    requires within { i ≤ length found.now }
     ensures { result ≡ byte_place text.now i }
 {
-    match found.get(i) {
+    match found.get(i as usize) {
         Some(token) => token.span.from + 1,
         None => text.len() as u32 + 1,
     }
@@ -29,28 +28,23 @@ fn byte_place(text: &[u8], found: &[Token], i: usize) -> u32
 
 /// The skeleton of a text, or the first kind that stands in it.
 pub fn read_skeleton(alloc: Global, text: &[u8]) -> Result<Skeleton, Stop>
+    requires { length text.now < 2 ^ 32 - 1 }
     ensures ok { IfOk result (IsSkeleton text.now) }
-    ensures few_atoms { IfOk result (λ skeleton. length skeleton.elements.items ≤ 999) }
-    ensures few_bonds { IfOk result (λ skeleton. length skeleton.bonds.items ≤ 999) }
-    ensures later { IfOk result (λ skeleton. JoinLater skeleton.bonds.items (length skeleton.elements.items)) }
     ensures err { IfErr result (IsBroken text.now) }
 {
-    if !is_built(text) {
+    let tokens = tokens_of(alloc, text)?;
+    if !are_built(&tokens) {
         return Err(Stop::Refused(Refusal::at(alloc, Kind::NotBuilt, 1)));
     }
-    let tokens = tokens_of(alloc, text)?;
     let roles = roles_of(alloc, &tokens)?;
-    if let Some(i) = first_misplaced(&roles) {
-        return Err(Stop::Refused(Refusal::at(alloc, Kind::BadOrder, byte_place(text, &tokens, i))));
+    let reading = read_roles(alloc, &roles)?;
+    if let Some(fault) = structure_fault(&roles, &reading) {
+        let place = byte_place(text, &tokens, fault.place);
+        return Err(Stop::Refused(Refusal::at(alloc, fault.kind, place)));
     }
-    if let Some(i) = first_unclosed(&roles) {
-        return Err(Stop::Refused(Refusal::at(
-            alloc,
-            Kind::ParenOpen,
-            byte_place(text, &tokens, i),
-        )));
+    let atoms = atoms_of(alloc, &tokens)?;
+    if let Some(fault) = limit_fault(alloc, &atoms, &reading.bonds)? {
+        return Err(Stop::Refused(Refusal::at(alloc, fault.kind, fault.place)));
     }
-    let elements = elements_of(alloc, &tokens)?;
-    let bonds = bonds_of(alloc, &roles)?;
-    Ok(Skeleton::new(elements, bonds))
+    Ok(Skeleton::new(atoms, reading.into_bonds()))
 }

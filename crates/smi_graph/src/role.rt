@@ -1,7 +1,6 @@
-ghost use Rattle.std.specs.Prelude.{◌≡◌, ◌<◌, ◌≤◌, ◌+◌, ◌++◌, IfOk, OnOk, length, map};
-ghost use Rattle.smi_graph.specs.Roles.{role_of, roles, element_of, elements};
+ghost use Rattle.std.specs.Prelude.{◌≡◌, IfOk, length};
+ghost use Rattle.smi_graph.specs.Roles.{role_of, roles};
 
-use mc_elements::Element;
 use smi_lex::{BondMark, Token, TokenKind};
 use std::alloc::{AllocError, Global};
 
@@ -38,35 +37,6 @@ pub fn roles_of(alloc: Global, tokens: &[Token]) -> Result<Vec<Role>, AllocError
     let mut found = Vec::new(alloc);
     for token in tokens {
         found.push(role_of(token.kind))?;
-    }
-    Ok(found)
-}
-
-fn push_element(found: &mut Vec<Element>, kind: TokenKind) -> Result<(), AllocError>
-    ensures elements { OnOk result (found.new.items ≡ found.old.items ++ element_of kind) }
-    ensures count { OnOk result (length found.new.items ≤ length found.old.items + 1) }
-{
-    match kind {
-        TokenKind::Bare { element, .. } | TokenKind::Bracket { element, .. } => {
-            found.push(element)?;
-            Ok(())
-        }
-        TokenKind::Bond(_)
-        | TokenKind::Ring(_)
-        | TokenKind::Enter
-        | TokenKind::Leave
-        | TokenKind::Dot => Ok(()),
-    }
-}
-
-/// The elements of the atoms, in the order of the text.
-pub fn elements_of(alloc: Global, tokens: &[Token]) -> Result<Vec<Element>, AllocError>
-    ensures elements { IfOk result (λ found. found.items ≡ elements tokens.now) }
-    ensures few { IfOk result (λ found. length found.items ≤ length tokens.now) }
-{
-    let mut found = Vec::new(alloc);
-    for token in tokens {
-        push_element(&mut found, token.kind)?;
     }
     Ok(found)
 }

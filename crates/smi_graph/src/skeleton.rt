@@ -1,152 +1,165 @@
-ghost use Rattle.std.specs.Prelude.{◌≡◌, ◌+◌, ◌-◌, ◌<◌, ◌≤◌, ◌^◌, [], ◌∷◌, ◌++◌, List, IfOk, OnOk, length, reverse};
-ghost use Rattle.smi_graph.specs.Bonds.{bond_to, bonds_of};
-ghost use Rattle.smi_graph.specs.declared.role.Role.{Role};
-ghost use Rattle.smi_graph.specs.Reading.{unless_dot};
+ghost use Rattle.std.specs.Prelude.{◌≡◌, ◌++◌, IfOk, OnOk, map, min};
+ghost use Rattle.smi_graph.specs.Roles.{atom_of, atoms_of};
+ghost use Rattle.smi_graph.specs.Reading.{held_atom};
 
-use crate::Role;
-use mc_base::AtomId;
+use mc_base::{AtomId, BondId, Span};
 use mc_elements::Element;
 use mc_mol::Bond;
+use smi_lex::{Token, TokenKind};
 use std::alloc::{AllocError, Global};
 
-/// The bonds of the tokens so far, with the atoms that open branches go back to.
-#[derive(Drop)]
-pub struct Builder {
-    bonds: Vec<Bond>,
-    count: u32,
-    last: Option<u32>,
-    after_dot: bool,
-    returns: Vec<Option<u32>>,
+/// An atom of a text. `bare` says that it stands without brackets, and then its hydrogens aren't written:
+/// they stand here as 0. An isotope or a class of 0 is none. `chiral` is true for `@` and false for `@@`.
+#[derive(Clone, Copy, Debug, PartialEq, Eq)]
+pub struct SkelAtom {
+    pub element: Element,
+    pub lower: bool,
+    pub bare: bool,
+    pub isotope: u16,
+    pub charge: i8,
+    pub hydrogens: u8,
+    pub class: u16,
+    pub chiral: Option<bool>,
+    pub span: Span,
 }
 
-/// No atom is the predecessor of one directly behind a dot.
-fn unless_dot(after_dot: bool, last: Option<u32>) -> Option<u32>
-    ensures { result ≡ unless_dot after_dot last }
-{
-    if after_dot { None } else { last }
+/// What is known of a bond before double bonds are placed.
+#[derive(Clone, Copy, Debug, PartialEq, Eq)]
+pub enum Link {
+    Order(u8),
+    /// a bond that is single or double
+    Candidate,
 }
 
-fn push_bond(bonds: &mut Vec<Bond>, first: Option<u32>, second: u32) -> Result<(), AllocError>
-    ensures { OnOk result (bonds.new.items ≡ bonds.old.items ++ bond_to first second) }
+/// A bond of a text. Its first atom is the predecessor, or that of the opening ring number.
+#[derive(Clone, Copy, Debug, PartialEq, Eq)]
+pub struct SkelBond {
+    pub first: AtomId,
+    pub second: AtomId,
+    pub link: Link,
+}
+
+/// A number as 16 bits hold it; one above the limits stays above them.
+fn held(number: u32) -> u16
+    ensures { result ≡ min number 65535 }
 {
-    match first {
-        Some(first) => {
-            bonds.push(Bond {
-                first: AtomId(first),
-                second: AtomId(second),
-                order: 1,
+    if number > 65535 { 65535 } else { number as u16 }
+}
+
+fn push_atom(atoms: &mut Vec<SkelAtom>, kind: TokenKind, span: Span) -> Result<(), AllocError>
+    ensures { OnOk result (atoms.new.items ≡ atoms.old.items ++ map held_atom (atom_of kind span)) }
+{
+    match kind {
+        TokenKind::Bare { element, lower } => {
+            atoms.push(SkelAtom {
+                element,
+                lower,
+                bare: true,
+                isotope: 0,
+                charge: 0,
+                hydrogens: 0,
+                class: 0,
+                chiral: None,
+                span,
             })?;
             Ok(())
         }
-        None => Ok(()),
+        TokenKind::Bracket {
+            element,
+            lower,
+            isotope,
+            chiral,
+            hydrogens,
+            charge,
+            class,
+        } => {
+            atoms.push(SkelAtom {
+                element,
+                lower,
+                bare: false,
+                isotope: held(isotope),
+                charge,
+                hydrogens,
+                class: held(class),
+                chiral,
+                span,
+            })?;
+            Ok(())
+        }
+        TokenKind::Bond(_)
+        | TokenKind::Ring(_)
+        | TokenKind::Enter
+        | TokenKind::Leave
+        | TokenKind::Dot => Ok(()),
     }
 }
 
-impl Builder {
-    ghost use Rattle.std.specs.Prelude.{ℕ};
-    ghost use Rattle.smi_graph.specs.Reading.{Reads};
-
-    /// Of no tokens.
-    fn new(alloc: Global) -> Builder
-        ensures { Reads result [] }
-    {
-        Builder {
-            bonds: Vec::new(alloc),
-            count: 0,
-            last: None,
-            after_dot: false,
-            returns: Vec::new(alloc),
-        }
-    }
-
-    /// One more atom.
-    fn read_atom(&mut self) -> Result<(), AllocError>
-        requires { self.old.count < 2 ^ 32 - 1 }
-        ensures reads { OnOk result ((before : List Role) → Reads self.old before → Reads self.new (Role.Atom ∷ before)) }
-        ensures count { OnOk result (self.new.count ≡ self.old.count + 1) }
-        ensures bonds { OnOk result (length self.new.bonds.items ≤ length self.old.bonds.items + 1) }
-    {
-        push_bond(
-            &mut self.bonds,
-            unless_dot(self.after_dot, self.last),
-            self.count,
-        )?;
-        self.last = Some(self.count);
-        self.after_dot = false;
-        self.count += 1;
-        Ok(())
-    }
-
-    /// One more token.
-    fn read(&mut self, role: Role) -> Result<(), AllocError>
-        requires { self.old.count < 2 ^ 32 - 1 }
-        ensures reads { OnOk result ((before : List Role) → Reads self.old before → Reads self.new (role ∷ before)) }
-        ensures count { OnOk result (self.new.count ≤ self.old.count + 1) }
-        ensures bonds { OnOk result (length self.new.bonds.items ≤ length self.old.bonds.items + 1) }
-    {
-        match role {
-            Role::Atom => self.read_atom(),
-            Role::Bond(_) | Role::Ring(_) => {
-                self.after_dot = false;
-                Ok(())
-            }
-            Role::Enter => {
-                self.returns.push(self.last)?;
-                self.after_dot = false;
-                Ok(())
-            }
-            Role::Leave => {
-                self.last = self.returns.pop().unwrap_or(None);
-                self.after_dot = false;
-                Ok(())
-            }
-            Role::Dot => {
-                self.after_dot = true;
-                Ok(())
-            }
-        }
-    }
-}
-
-/// The bonds of these tokens, in the order of the tokens that complete them.
-pub fn bonds_of(alloc: Global, roles: &[Role]) -> Result<Vec<Bond>, AllocError>
-    requires { length roles.now < 2 ^ 32 - 1 }
-    ensures bonds { IfOk result (λ found. found.items ≡ bonds_of (reverse roles.now)) }
-    ensures few { IfOk result (λ found. length found.items ≤ length roles.now) }
+/// The atoms, in the order of the text.
+pub fn atoms_of(alloc: Global, tokens: &[Token]) -> Result<Vec<SkelAtom>, AllocError>
+    ensures { IfOk result (λ atoms. atoms.items ≡ map held_atom (atoms_of tokens.now)) }
 {
-    let mut builder = Builder::new(alloc);
-    for role in roles {
-        builder.read(*role)?;
+    let mut atoms = Vec::new(alloc);
+    for token in tokens {
+        push_atom(&mut atoms, token.kind, token.span)?;
     }
-    let Builder {
-        bonds,
-        count: _,
-        last: _,
-        after_dot: _,
-        returns: _,
-    } = builder;
-    Ok(bonds)
+    Ok(atoms)
 }
 
-/// The atoms and bonds of a text. Atoms have the order of the text, bonds that of the tokens that complete them;
-/// the first atom of a bond is the predecessor.
+/// The atoms and bonds of a text. Atoms have the order of the text, bonds that of the tokens that complete them.
 #[derive(Drop)]
 pub struct Skeleton {
-    elements: Vec<Element>,
+    atoms: Vec<SkelAtom>,
     bonds: Vec<Bond>,
 }
 
 impl Skeleton {
-    pub fn new(elements: Vec<Element>, bonds: Vec<Bond>) -> Skeleton
-        ensures { result ≡ record { elements = elements; bonds = bonds } }
+    ghost use Rattle.std.specs.Prelude.{◌≡◌, ◌<◌, ◌≤◌, length, slice_get, option_map, Some};
+    ghost use Rattle.smi_graph.specs.Skeletons.{linked};
+
+    pub fn new(atoms: Vec<SkelAtom>, bonds: Vec<Bond>) -> Skeleton
+        ensures { result ≡ record { atoms = atoms; bonds = bonds } }
     {
-        Skeleton { elements, bonds }
+        Skeleton { atoms, bonds }
     }
 
-    pub fn elements(&self) -> &[Element]
-        ensures { result.now ≡ self.now.elements.items }
+    pub fn atom_count(&self) -> u32
+        requires { length self.now.atoms.items ≤ 999 }
+        ensures { result ≡ length self.now.atoms.items }
     {
-        self.elements.as_slice()
+        self.atoms.len() as u32
+    }
+
+    pub fn bond_count(&self) -> u32
+        requires { length self.now.bonds.items ≤ 999 }
+        ensures { result ≡ length self.now.bonds.items }
+    {
+        self.bonds.len() as u32
+    }
+
+    pub fn atom(&self, a: AtomId) -> SkelAtom
+        requires { a.0 < length self.now.atoms.items }
+        ensures { Some result ≡ slice_get self.now.atoms.items a.0 }
+    {
+        self.atoms[a.0 as usize]
+    }
+
+    /// A bond; its first atom is the predecessor, or that of the opening ring number.
+    pub fn bond(&self, b: BondId) -> SkelBond
+        requires { b.0 < length self.now.bonds.items }
+        ensures { Some result ≡ option_map linked (slice_get self.now.bonds.items b.0) }
+    {
+        let bond = self.bonds[b.0 as usize];
+        SkelBond {
+            first: bond.first,
+            second: bond.second,
+            link: Link::Order(bond.order),
+        }
+    }
+
+    pub fn atoms(&self) -> &[SkelAtom]
+        ensures { result.now ≡ self.now.atoms.items }
+    {
+        self.atoms.as_slice()
     }
 
     pub fn bonds(&self) -> &[Bond]

@@ -207,3 +207,13 @@ cause_is text = by_kind (one_of_three text)
     by_kind (inr (inl is)) = as_said OtherChirality is (other_sound text is)
     by_kind (inr (inr is)) = as_said BadToken is
         (λ w. let found = wildcard_found text w in cc, λ o. let found = other_found text o in cc)
+
+-- a byte at which no token begins has one cause
+pub only_cause : (k : Kind) (text : List ℕ) → IsCause k text → cause text ≡ k
+only_cause Wildcard text holds = wildcard_found text holds
+only_cause OtherChirality text holds = other_found text holds
+only_cause BadToken text holds = elim (one_of_three text) [
+  | inl is ↦ absurd (holds.0 (wildcard_sound text is))
+  | inr more ↦ elim more [ inl is ↦ absurd (holds.1 (other_sound text is)) | inr is ↦ is ]
+]
+only_cause _ text holds = absurd holds

@@ -1,12 +1,11 @@
 -- Atoms and bonds are added one after the other.
 use Rattle.std.proofs.Common.{arith, ◌≡◌, ◌∙◌, ℕ, zero, suc, ◌+◌, ◌<◌, List, [], ◌∷◌, ◌++◌, length, get_or, take, false, Option, Some, None, refl, ap, sym, subst}
-use Rattle.std.specs.Prelude.{◌&&◌, ◌||◌, ◌==◌, slice_get}
-use Rattle.std.proofs.lemmas.Bool.Decides.{nat_tests}
+use Rattle.std.specs.Prelude.{slice_get}
 use Rattle.std.proofs.lemmas.List.{take_more, length-take, get_or-take, get_or_default}
 use Rattle.mc_mol.specs.declared.parts.Atom.{Atom}
 use Rattle.mc_mol.specs.declared.parts.Bond.{Bond}
-use Rattle.mc_mol.specs.Molecule.{Molecule, are_joined}
-use Rattle.smi_graph.specs.Later.{JoinLater}
+use Rattle.mc_mol.specs.Molecule.{Molecule, joins, are_joined}
+use Rattle.smi_graph.specs.Skeletons.{AreBonds}
 use Rattle.smi_mean.specs.Meaning.{nones, without_stereo}
 
 nones_push : {A B : Type 0} → (xs : List A) (x : A) → nones {B = B} (xs ++ x ∷ []) ≡ nones xs ++ None ∷ []
@@ -32,24 +31,17 @@ one_more_bond start old new bonds i d within was is =
     ∙ sym (ap (λ (ys : List Bond). without_stereo start.atoms ys) (take_more bonds i d within)
     ∙ ap (λ c. let x : Molecule = record { atoms = start.atoms; bonds = take i bonds ++ get_or bonds i d ∷ []; centres = nones start.atoms; sides = c } in x) (nones_push (take i bonds) (get_or bonds i d)))
 
--- a bond of a list joins later atoms than those before it
-none_joins : (bonds : List Bond) (u v : ℕ) → u < v → ((i : ℕ) (d : Bond) → i < length bonds → (get_or bonds i d).second.0 < v)
-    → ((i : ℕ) (d : Bond) → i < length bonds → (get_or bonds i d).first.0 < (get_or bonds i d).second.0) → are_joined bonds u v ≡ false
-none_joins [] u v less below later = refl
-none_joins (b ∷ bonds) u v less below later =
-    let low = below 0 b (omega arith) in
-    let up = later 0 b (omega arith) in
-    rw (apart b.first.0 b.second.0 u v up low less) (none_joins bonds u v less (λ i d lt. below (suc i) d (omega arith)) (λ i d lt. later (suc i) d (omega arith)))
-  where
-    apart : (p q u v : ℕ) → p < q → q < v → u < v → ((p == u && q == v) || (p == v && q == u)) ≡ false
-    apart p q u v up low less = grind (arith, nat_tests)
+-- a bond of a list joins no pair that an earlier one joins
+none_before : (bonds : List Bond) (u v : ℕ) → ((i : ℕ) (d : Bond) → i < length bonds → joins (get_or bonds i d) u v ≡ false) → are_joined bonds u v ≡ false
+none_before [] u v apart = refl
+none_before (b ∷ bonds) u v apart = rw (apart 0 b (omega arith)) (none_before bonds u v (λ i d less. apart (suc i) d (omega arith)))
 
-pub not_joined : (bonds : List Bond) (i n : ℕ) (d : Bond) → JoinLater bonds n → i < length bonds → are_joined (take i bonds) (get_or bonds i d).first.0 (get_or bonds i d).second.0 ≡ false
-not_joined bonds i n d j within =
+pub not_joined : (bonds : List Bond) (i n : ℕ) (d : Bond) → AreBonds n bonds → i < length bonds → are_joined (take i bonds) (get_or bonds i d).first.0 (get_or bonds i d).second.0 ≡ false
+not_joined bonds i n d sound within =
     let len : length (take i bonds) ≡ i = length-take i bonds ∙ omega arith in
-    none_joins (take i bonds) (get_or bonds i d).first.0 (get_or bonds i d).second.0 (j.later i d within)
-    (λ k e less. subst (λ (b : Bond). b.second.0 < (get_or bonds i d).second.0) (sym (get_or-take i bonds k e (omega arith) ∙ get_or_default bonds k e d (omega arith))) (j.rising k i d (omega arith) within))
-    (λ k e less. subst (λ (b : Bond). b.first.0 < b.second.0) (sym (get_or-take i bonds k e (omega arith))) (j.later k e (omega arith)))
+    none_before (take i bonds) (get_or bonds i d).first.0 (get_or bonds i d).second.0
+    (λ k e less. subst (λ (b : Bond). joins b (get_or bonds i d).first.0 (get_or bonds i d).second.0 ≡ false)
+    (sym (get_or-take i bonds k e (omega arith) ∙ get_or_default bonds k e d (omega arith))) (sound.once k i d (omega arith) within))
 
 -- the atoms of a molecule without stereo are no centres
 pub free_at : {A B : Type 0} → (xs : List A) (i : ℕ) → i < length xs → slice_get (nones {B = B} xs) i ≡ Some None

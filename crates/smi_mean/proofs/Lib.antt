@@ -1,4 +1,5 @@
 pub mod NoneAbove
 pub mod Building
 pub mod Refusals
-mod Rows
+pub mod LowHydrogens
+pub mod Soundness

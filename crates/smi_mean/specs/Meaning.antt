@@ -1,23 +1,25 @@
--- The molecule of a skeleton: OpenSMILES 1.0, section 3.1.5 (hydrogens of the organic subset).
-use Rattle.std.specs.Prelude.{ℕ, ◌+◌, pos, List, [], ◌∷◌, Option, None, reverse}
-use Rattle.mc_elements.specs.declared.element.Element.{Element}
+-- The molecule of a skeleton: OpenSMILES 1.0, sections 3.1 (atoms) and 3.1.5 (hydrogens of the organic subset).
+use Rattle.std.specs.Prelude.{ℕ, ◌+◌, List, [], ◌∷◌, Option, None, if◌then◌else◌}
 use Rattle.mc_elements.specs.Valences.{smiles_valences, implied}
 use Rattle.mc_mol.specs.declared.parts.Atom.{Atom}
 use Rattle.mc_mol.specs.declared.parts.Bond.{Bond}
 use Rattle.mc_mol.specs.Molecule.{Molecule, bond_sum}
-use Rattle.smi_lex.specs.Tokens.{tokens}
-use Rattle.smi_graph.specs.Roles.{elements}
-use Rattle.smi_graph.specs.Bonds.{bonds_of}
-use Rattle.smi_graph.specs.Rules.{roles_in}
+use Rattle.smi_graph.specs.declared.skeleton.SkelAtom.{SkelAtom}
+use Rattle.smi_graph.specs.Rules.{atoms_in, bonds_in}
 
--- a bare atom has the hydrogens that its bonds leave it
-abbrev pub bare_atom : Element → ℕ → Atom
-bare_atom e sum = record { element = e; isotope = 0; charge = pos 0; hydrogens = implied (smiles_valences e) sum; class = 0 }
+-- the hydrogens of an atom with this bond sum: a bare atom has those that its bonds leave it, an atom in brackets those
+-- that it writes
+abbrev pub hydrogens_of : SkelAtom → ℕ → ℕ
+hydrogens_of atom sum = if atom.bare then implied (smiles_valences atom.element) sum else atom.hydrogens
 
--- the bare atoms from number k on
-abbrev pub atoms_with : List Bond → ℕ → List Element → List Atom
+abbrev pub meant_atom : SkelAtom → ℕ → Atom
+meant_atom atom sum =
+    record { element = atom.element; isotope = atom.isotope; charge = atom.charge; hydrogens = hydrogens_of atom sum; class = atom.class }
+
+-- the atoms from number k on
+abbrev pub atoms_with : List Bond → ℕ → List SkelAtom → List Atom
 atoms_with bonds k [] = []
-atoms_with bonds k (e ∷ es) = bare_atom e (bond_sum bonds k) ∷ atoms_with bonds (k + 1) es
+atoms_with bonds k (atom ∷ atoms) = meant_atom atom (bond_sum bonds k) ∷ atoms_with bonds (k + 1) atoms
 
 -- none for each
 abbrev pub nones : {A B : Type 0} → List A → List (Option B)
@@ -28,9 +30,9 @@ nones (x ∷ xs) = None ∷ nones xs
 abbrev pub without_stereo : List Atom → List Bond → Molecule
 without_stereo atoms bonds = record { atoms = atoms; bonds = bonds; centres = nones atoms; sides = nones bonds }
 
-abbrev pub meaning_of : List Element → List Bond → Molecule
-meaning_of es bonds = without_stereo (atoms_with bonds 0 es) bonds
+abbrev pub meaning_of : List SkelAtom → List Bond → Molecule
+meaning_of atoms bonds = without_stereo (atoms_with bonds 0 atoms) bonds
 
 -- the molecule of a text's skeleton
 abbrev pub meaning : List ℕ → Molecule
-meaning text = meaning_of (elements (tokens text)) (bonds_of (reverse (roles_in text)))
+meaning text = meaning_of (atoms_in text) (bonds_in text)

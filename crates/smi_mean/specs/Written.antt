@@ -1,117 +1,142 @@
 -- The one text in which a molecule is written (this project's own).
-use Rattle.std.specs.List.{list_any}
-use Rattle.std.specs.Prelude.{ℕ, zero, suc, Bool, true, false, not, ◌&&◌, List, [], ◌∷◌, ◌++◌, Option, Some, None, ◌==◌, slice_get, length, reverse, map, flat_map, option_map, option_to_list}
+use Rattle.std.specs.Prelude.{ℕ, zero, suc, Bool, true, false, not, ◌&&◌, List, [], ◌∷◌, ◌++◌, Option, Some, None, ◌==◌, nat_lt, slice_get, get_or, map, flat_map, codes, ℤ, pos, negsuc, nat_abs, if◌then◌else◌}
+use Rattle.std.specs.Fmt.{decimal}
 use Rattle.mc_base.specs.declared.ids.AtomId.{AtomId}
 use Rattle.mc_elements.specs.declared.element.Element.TheVariants.{C}
 use Rattle.mc_elements.specs.Elements.{symbol}
+use Rattle.mc_elements.specs.Valences.{smiles_valences, implied}
 use Rattle.mc_mol.specs.declared.parts.Atom.{Atom}
-use Rattle.mc_mol.specs.Molecule.{Molecule, are_joined}
+use Rattle.mc_mol.specs.Molecule.{Molecule, bond_sum}
+use Rattle.smi_lex.specs.Grammar.{mark_text, may_be_bare}
+use Rattle.smi_lex.specs.declared.token.BondMark.{BondMark}
+use Rattle.smi_lex.specs.declared.token.BondMark.TheVariants.{Double, Triple, Quadruple}
 use Rattle.smi_lex.specs.declared.token.TokenKind.{TokenKind}
-use Rattle.smi_lex.specs.declared.token.TokenKind.TheVariants.{Bare, Enter, Leave}
-use Rattle.smi_mean.specs.declared.step.Step.{Step}
+use Rattle.smi_lex.specs.declared.token.TokenKind.TheVariants.{Bare, Bracket, Bond, Ring, Enter, Leave, Dot}
+use Rattle.smi_mean.specs.Order.{Graph, graph_of, order, atoms, parents}
+use Rattle.smi_mean.specs.RingNumbers.{Pair, has, closing, opening}
 
--- The order of the atoms
+-- The token of an atom
 
--- the first of two values that is there
-abbrev pub option_or_else : {A : Type 0} → Option A → Option A → Option A
-option_or_else None other = other
-option_or_else (Some x) other = Some x
+-- An atom stands without brackets where it may, has nothing but its element, and has the hydrogens of a bare atom.
+abbrev pub is_bare : Atom → ℕ → Bool
+is_bare atom sum =
+    may_be_bare atom.element false
+    && (atom.isotope == 0 && (nat_abs atom.charge == 0 && (atom.class == 0 && atom.hydrogens == implied (smiles_valences atom.element) sum)))
 
-abbrev pub some_if : Bool → ℕ → Option ℕ
-some_if true n = Some n
-some_if false n = None
+-- the token of an atom with this bond sum
+abbrev pub token_of : Atom → ℕ → TokenKind
+token_of atom sum =
+    if is_bare atom sum then Bare atom.element false
+    else Bracket atom.element false atom.isotope None atom.hydrogens atom.charge atom.class
 
--- the least number below n that passes
-abbrev pub least : (ℕ → Bool) → ℕ → Option ℕ
-least p zero = None
-least p (suc n) = option_or_else (least p n) (some_if (p n) n)
+abbrev pub token_in : Option Atom → ℕ → TokenKind
+token_in (Some atom) sum = token_of atom sum
+token_in None sum = Bare C false
 
-abbrev pub is_written : List Step → ℕ → Bool
-is_written steps u = list_any (λ s. s.atom == u) steps
-
-abbrev pub least_unwritten : Molecule → List Step → Option ℕ
-least_unwritten m steps = least (λ v. not (is_written steps v)) (length m.atoms)
-
-abbrev pub least_unwritten_neighbour : Molecule → List Step → ℕ → Option ℕ
-least_unwritten_neighbour m steps u = least (λ v. are_joined m.bonds u v && not (is_written steps v)) (length m.atoms)
-
--- the next step behind the first of these steps whose atom has an unwritten neighbour: to the least of these
-abbrev pub next_behind : Molecule → List Step → List Step → Option Step
-next_behind m written [] = None
-next_behind m written (s ∷ others) = option_or_else
-    (option_map (λ v. record { atom = v; parent = Some s.atom }) (least_unwritten_neighbour m written s.atom))
-    (next_behind m written others)
-
--- The next step: behind the latest written atom that has an unwritten neighbour; where there is none, to the least
--- unwritten atom, which has no parent.
-abbrev pub next_step : Molecule → List Step → Option Step
-next_step m written = option_or_else (next_behind m written (reverse written))
-    (option_map (λ v. record { atom = v; parent = None }) (least_unwritten m written))
-
--- the first n steps
-abbrev pub steps : Molecule → ℕ → List Step
-steps m zero = []
-steps m (suc n) = steps m n ++ option_to_list (next_step m (steps m n))
-
-abbrev pub order : Molecule → List Step
-order m = steps m (length m.atoms)
+-- the token of atom u of a molecule
+abbrev pub atom_token : Molecule → ℕ → TokenKind
+atom_token m u = token_in (slice_get m.atoms u) (bond_sum m.bonds u)
 
 -- The tokens
 
-abbrev pub is_option : Option ℕ → ℕ → Bool
-is_option None n = false
-is_option (Some k) n = k == n
+-- the symbol of a bond order; a single bond has none
+abbrev pub symbol_of : ℕ → Option BondMark
+symbol_of order =
+    if order == 2 then Some Double else if order == 3 then Some Triple else if order == 4 then Some Quadruple else None
 
-abbrev pub is_parent : Option ℕ → Option ℕ → Bool
-is_parent None before = true
-is_parent (Some p) before = is_option before p
+abbrev pub mark_tokens : Option BondMark → List TokenKind
+mark_tokens None = []
+mark_tokens (Some mark) = Bond mark ∷ []
 
--- an atom is its parent's first child if the parent is the atom written before it
-abbrev pub is_first_child : Option ℕ → Step → Bool
-is_first_child before s = is_parent s.parent before
+-- the symbol of a ring bond stands at the opening number only
+abbrev pub closed_tokens : List Pair → List TokenKind
+closed_tokens [] = []
+closed_tokens (p ∷ ps) = Ring p.number ∷ closed_tokens ps
 
-abbrev pub has_no_child : Option ℕ → List Step → Bool
-has_no_child None later = true
-has_no_child (Some p) later = not (list_any (λ t. is_option t.parent p) later)
+abbrev pub opened_tokens : List Pair → List TokenKind
+opened_tokens [] = []
+opened_tokens (p ∷ ps) = mark_tokens (symbol_of p.order) ++ (Ring p.number ∷ opened_tokens ps)
 
--- an atom is its parent's last child if no later atom has this parent
-abbrev pub is_last_child : Step → List Step → Bool
-is_last_child s later = has_no_child s.parent later
+-- the ring numbers at atom k: those that close, then those that open
+abbrev pub ring_tokens : (ℕ → ℕ → ℕ) → (ℕ → ℕ → Bool) → ℕ → ℕ → List TokenKind
+ring_tokens orders rings n k = closed_tokens (closing orders rings n k) ++ opened_tokens (opening orders rings n k)
 
 abbrev pub if_not : Bool → TokenKind → List TokenKind
 if_not true k = []
 if_not false k = k ∷ []
 
-abbrev pub token_of : Option Atom → TokenKind
-token_of (Some atom) = Bare atom.element false
-token_of None = Bare C false
+-- What stands before atom k. Its parent is atom p - 1, and it has none where p is 0; `qs` are the same for the later
+-- atoms. All children of an atom but the last are branches: `)` stands before each child but the first, `(` before each
+-- child but the last. An atom without a parent stands behind a dot, unless it is the first.
+abbrev pub before_atom : (ℕ → ℕ → ℕ) → ℕ → ℕ → List ℕ → List TokenKind
+before_atom orders zero zero qs = []
+before_atom orders (suc j) zero qs = Dot ∷ []
+before_atom orders k (suc p) qs =
+    if_not (suc p == k) Leave ++ (if_not (not (has (suc p) qs)) Enter ++ mark_tokens (symbol_of (orders p k)))
 
--- the token of an atom
-abbrev pub atom_token : Molecule → ℕ → TokenKind
-atom_token m u = token_of (slice_get m.atoms u)
+-- the tokens of the atoms from number k on, which have these tokens and parents
+abbrev pub text_from : (ℕ → ℕ → ℕ) → (ℕ → ℕ → Bool) → ℕ → ℕ → List TokenKind → List ℕ → List TokenKind
+text_from orders rings n k [] qs = []
+text_from orders rings n k (t ∷ ts) [] = []
+text_from orders rings n k (t ∷ ts) (p ∷ qs) =
+    before_atom orders k p qs ++ (t ∷ (ring_tokens orders rings n k ++ text_from orders rings n (suc k) ts qs))
 
--- All children of an atom but the last are branches: `)` stands before each child but the first,
--- `(` before each child but the last.
-abbrev pub piece : Molecule → Option ℕ → Step → List Step → List TokenKind
-piece m before s later = if_not (is_first_child before s) Leave ++ (if_not (is_last_child s later) Enter ++ atom_token m s.atom ∷ [])
+-- the atom at a place
+abbrev pub at : Graph → ℕ → ℕ
+at g k = get_or (atoms (order g)) k 0
 
--- the tokens of these steps, behind the atom written before them
-abbrev pub tokens_of : Molecule → Option ℕ → List Step → List TokenKind
-tokens_of m before [] = []
-tokens_of m before (s ∷ later) = piece m before s later ++ tokens_of m (Some s.atom) later
+-- whether the atoms at these places have a bond that leads to no parent
+abbrev pub has_ring : Graph → ℕ → ℕ → Bool
+has_ring g j l = g.joined (at g j) (at g l) && not (get_or (parents (order g)) l 0 == suc j)
+
+-- the order of the bond between the atoms at these places
+abbrev pub bond_order : Graph → ℕ → ℕ → ℕ
+bond_order g j l = g.order (at g j) (at g l)
+
+-- the tokens of a graph whose atoms have these tokens
+abbrev pub graph_tokens : Graph → (ℕ → TokenKind) → List TokenKind
+graph_tokens g token =
+    text_from (λ j l. bond_order g j l) (λ j l. has_ring g j l) g.count 0 (map token (atoms (order g))) (parents (order g))
+
+abbrev pub written_tokens : Molecule → List TokenKind
+written_tokens m = graph_tokens (graph_of m) (atom_token m)
 
 -- The text
 
--- how a token of the written form is spelled: bare atoms and branches are written today
+abbrev pub isotope_text : ℕ → List ℕ
+isotope_text n = if n == 0 then [] else decimal n
+
+abbrev pub hydrogens_text : ℕ → List ℕ
+hydrogens_text n = if n == 0 then [] else if n == 1 then codes "H" else codes "H" ++ decimal n
+
+abbrev pub amount_text : List ℕ → ℕ → List ℕ
+amount_text sign n = if n == 1 then sign else sign ++ decimal n
+
+abbrev pub charge_text : ℤ → List ℕ
+charge_text (pos zero) = []
+charge_text (pos (suc n)) = amount_text (codes "+") (suc n)
+charge_text (negsuc n) = amount_text (codes "-") (suc n)
+
+abbrev pub class_text : ℕ → List ℕ
+class_text n = if n == 0 then [] else codes ":" ++ decimal n
+
+abbrev pub ring_text : ℕ → List ℕ
+ring_text n = if nat_lt n 10 then decimal n else codes "%" ++ decimal n
+
+-- how a token of the written form is spelled: each part of a bracket only where there is something to say
 abbrev pub spelling : TokenKind → List ℕ
 spelling (Bare element lower) = symbol element
-spelling Enter = 40 ∷ []
-spelling Leave = 41 ∷ []
-spelling _ = []
+spelling (Bracket element lower isotope chiral hydrogens charge class) =
+    codes "[" ++ (isotope_text isotope ++ (symbol element ++ (hydrogens_text hydrogens ++ (charge_text charge ++ (class_text class ++ codes "]")))))
+spelling (Bond mark) = mark_text mark
+spelling (Ring number) = ring_text number
+spelling Enter = codes "("
+spelling Leave = codes ")"
+spelling Dot = codes "."
 
 -- the text, and the atoms in the order in which they are written
 abbrev pub written_text : Molecule → List ℕ
-written_text m = flat_map spelling (tokens_of m None (order m))
+written_text m = flat_map spelling (written_tokens m)
 
 abbrev pub written_order : Molecule → List AtomId
-written_order m = map (λ s. record { 0 = s.atom }) (order m)
+written_order m = map (λ u. record { 0 = u }) (atoms (order (graph_of m)))

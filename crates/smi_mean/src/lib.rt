@@ -1,10 +1,15 @@
 //! What a SMILES text stands for: hydrogens, and the molecule of a skeleton.
 #![tactic(auto)]
 
-mod hydrogens;
+mod atoms;
+mod faults;
+mod line;
 mod molecule;
 mod read;
-mod step;
+mod sums;
 
 pub use read::{SmilesRead, read_smiles};
-pub use step::Step;
+pub use sums::bond_sums;
+
+#[cfg(test)]
+mod tests;

@@ -1,5 +1,5 @@
 ghost use Rattle.std.specs.Prelude.{◌≡◌, ◌≤◌, [], IfOk, OnOk, length};
-ghost use Rattle.smi_graph.specs.Later.{JoinLater};
+ghost use Rattle.smi_graph.specs.Skeletons.{AreBonds};
 ghost use Rattle.smi_mean.specs.Meaning.{without_stereo, nones};
 
 use mc_base::NoMemory;
@@ -26,7 +26,7 @@ fn add_atoms(mol: &mut Mol, atoms: &[Atom]) -> Result<(), NoMemory>
 fn add_bonds(mol: &mut Mol, bonds: &[Bond]) -> Result<(), NoMemory>
     requires none { mol.old ≡ without_stereo mol.old.atoms [] }
     requires few { length bonds.now ≤ 999 }
-    requires later { JoinLater bonds.now (length mol.old.atoms) }
+    requires sound { AreBonds (length mol.old.atoms) bonds.now }
     ensures { OnOk result (mol.new ≡ without_stereo mol.old.atoms bonds.now) }
 {
     for bond in bonds {
@@ -45,7 +45,7 @@ fn add_bonds(mol: &mut Mol, bonds: &[Bond]) -> Result<(), NoMemory>
 pub fn molecule(alloc: Global, atoms: &[Atom], bonds: &[Bond]) -> Result<Mol, NoMemory>
     requires few_atoms { length atoms.now ≤ 999 }
     requires few_bonds { length bonds.now ≤ 999 }
-    requires later { JoinLater bonds.now (length atoms.now) }
+    requires sound { AreBonds (length atoms.now) bonds.now }
     ensures { IfOk result (λ mol. mol ≡ without_stereo atoms.now bonds.now) }
 {
     let mut mol = Mol::new(alloc);

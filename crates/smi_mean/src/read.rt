@@ -1,33 +1,86 @@
-ghost use Rattle.std.specs.Prelude.{◌≡◌, IfOk, IfErr};
+ghost use Rattle.std.specs.Prelude.{◌≡◌, ◌+◌, ◌≤◌, ◌<◌, ◌^◌, ◌-◌, IfOk, IfErr, length, drop, slice_range};
+ghost use Rattle.smi_graph.specs.Skeletons.{AreBonds, IsSkeleton};
+ghost use Rattle.smi_mean.specs.Meant.{IsMeantBy, IsFaulty};
+ghost use Rattle.smi_mean.specs.Lines.{text_of, name_of};
 ghost use Rattle.smi_mean.specs.Rules.{SmilesStands, IsRefused};
+ghost use Rattle.smi_mean.specs.Sound.{IsSound};
 
-use crate::hydrogens::{atoms_with, first_overvalent};
+use crate::atoms::atoms_with;
+use crate::faults::{first_hydrogen_on_hydrogen, first_overvalent};
+use crate::line::text_end;
 use crate::molecule::molecule;
-use mc_base::{Kind, Refusal, Stop};
+use crate::sums::bond_sums;
+use mc_base::{Kind, Refusal, Span, Stop};
 use mc_mol::Mol;
-use smi_graph::read_skeleton;
+use smi_graph::{Skeleton, read_skeleton};
 use std::alloc::Global;
 
-/// What a line of a SMILES file is read as.
+/// What a line of a SMILES file is read as: the molecule that its text stands for, the skeleton of the text, and
+/// the name, which is what follows the first space or tab.
 #[derive(Drop)]
 pub struct SmilesRead {
     pub mol: Mol,
+    pub skeleton: Skeleton,
+    pub name: Span,
 }
 
-/// The molecule that a text stands for, or the first kind that stands in it.
-pub fn read_smiles(alloc: Global, line: &[u8]) -> Result<SmilesRead, Stop>
-    ensures ok { IfOk result (λ read. SmilesStands line.now read.mol) }
-    ensures err { IfErr result (IsRefused line.now) }
+/// Where the name of a line stands whose text ends here.
+fn name_span(line: &[u8], end: usize) -> Span
+    requires end { end ≤ length line.now }
+    requires short { length line.now < 2 ^ 32 - 1 }
+    requires name { drop (end + 1) line.now ≡ name_of line.now }
+    ensures name { slice_range line.now result.from result.to ≡ name_of line.now }
+    ensures within { (result.from ≤ result.to) × (result.to ≤ length line.now) }
 {
-    let skeleton = match read_skeleton(alloc, line) {
+    let to = line.len() as u32;
+    let from = if end < line.len() { end as u32 + 1 } else { to };
+    Span { from, to }
+}
+
+/// The molecule that a text stands for which has this skeleton, or the first kind that stands in it.
+fn mean(alloc: Global, skeleton: &Skeleton) -> Result<Mol, Stop>
+    requires few_atoms { length skeleton.now.atoms.items ≤ 999 }
+    requires few_bonds { length skeleton.now.bonds.items ≤ 999 }
+    requires sound { AreBonds (length skeleton.now.atoms.items) skeleton.now.bonds.items }
+    ensures ok { IfOk result (λ mol. IsMeantBy skeleton.now mol) }
+    ensures err { IfErr result (IsFaulty skeleton.now) }
+{
+    let bonds = skeleton.bonds();
+    let sums = bond_sums(alloc, bonds, skeleton.atoms().len())?;
+    let atoms = atoms_with(alloc, bonds, &sums, skeleton.atoms())?;
+    if let Some(k) = first_overvalent(&atoms, bonds, &sums) {
+        return Err(Stop::Refused(Refusal::at(alloc, Kind::LimitValence, k as u32 + 1)));
+    }
+    if let Some(k) = first_hydrogen_on_hydrogen(&atoms) {
+        return Err(Stop::Refused(Refusal::at(alloc, Kind::HydrogenOnHydrogen, k as u32 + 1)));
+    }
+    let mol = molecule(alloc, &atoms, bonds)?;
+    Ok(mol)
+}
+
+/// The molecule that the text of a line stands for, or the first kind that stands in it.
+pub fn read_smiles(alloc: Global, line: &[u8]) -> Result<SmilesRead, Stop>
+    requires { length line.now < 2 ^ 32 - 1 }
+    ensures ok { IfOk result (λ read. SmilesStands (text_of line.now) read.mol) }
+    ensures skeleton { IfOk result (λ read. IsSkeleton (text_of line.now) read.skeleton) }
+    ensures sound { IfOk result (λ read. IsSound read.mol) }
+    ensures name { IfOk result (λ read. slice_range line.now read.name.from read.name.to ≡ name_of line.now) }
+    ensures within { IfOk result (λ read. (read.name.from ≤ read.name.to) × (read.name.to ≤ length line.now)) }
+    ensures err { IfErr result (IsRefused (text_of line.now)) }
+{
+    let end = text_end(line);
+    let name = name_span(line, end);
+    let skeleton = match read_skeleton(alloc, &line[..end]) {
         Ok(skeleton) => skeleton,
         Err(stop) => return Err(stop),
     };
-    let bonds = skeleton.bonds();
-    let atoms = atoms_with(alloc, bonds, skeleton.elements())?;
-    if let Some(k) = first_overvalent(&atoms, bonds) {
-        return Err(Stop::Refused(Refusal::at(alloc, Kind::LimitValence, k as u32 + 1)));
-    }
-    let mol = molecule(alloc, &atoms, bonds)?;
-    Ok(SmilesRead { mol })
+    let mol = match mean(alloc, &skeleton) {
+        Ok(mol) => mol,
+        Err(stop) => return Err(stop),
+    };
+    Ok(SmilesRead {
+        mol,
+        skeleton,
+        name,
+    })
 }

@@ -1,30 +1,74 @@
--- The least number that passes.
-use Rattle.std.proofs.Common.{◌≡◌, ℕ, zero, suc, ◌+◌, ◌<◌, Bool, true, false, Some, None, Option, refl, arith, add-one, subst, inl, inr}
-use Rattle.std.proofs.lemmas.Bool.{cases_lt}
-use Rattle.smi_mean.specs.Written.{least, option_or_else, some_if}
+-- The least number that passes, and tests.
+use Rattle.std.proofs.Common.{◌≡◌, ◌≢◌, ℕ, zero, suc, ◌<◌, Bool, true, false, Some, None, Option, refl, sym, ◌∙◌, arith, subst, inl, inr}
+use Rattle.std.specs.Prelude.{◌==◌, ◌&&◌, ◌||◌, not, ◌⊎◌}
+use Rattle.std.proofs.lemmas.Bool.{cases_lt, false≢true}
+use Rattle.std.proofs.lemmas.Bool.Decides.{nat_tests}
+use Rattle.smi_graph.specs.Bonds.{or_else}
+use Rattle.smi_mean.specs.Order.{least, some_if}
 
-pub least_more : (p : ℕ → Bool) (n : ℕ) → least p n ≡ None → p n ≡ false → least p (n + 1) ≡ None
-least_more p n none fails = rw (add-one, none, fails) refl
+pub test_other : (p q : ℕ) → p ≢ q → (p == q) ≡ false
+test_other p q ne = grind (arith, nat_tests)
 
-found_at : (p : ℕ → Bool) (k : ℕ) → least p k ≡ None → p k ≡ true → least p (suc k) ≡ Some k
-found_at p k none passes = rw (none, passes) refl
+pub test_same : (p : ℕ) → (p == p) ≡ true
+test_same p = grind (arith, nat_tests)
 
-pub least_found : (p : ℕ → Bool) (k n : ℕ) → least p k ≡ None → p k ≡ true → k < n → least p n ≡ Some k
-least_found p k zero none passes below = absurd (omega arith)
-least_found p k (suc n) none passes below = elim (cases_lt k n) [
-  | inl less ↦ rw (least_found p k n none passes less) refl
-  | inr not_less ↦ let e : k ≡ n = omega arith in let P : ℕ → Type 0 = λ m. least p (suc m) ≡ Some k in subst P e (found_at p k none passes)
-]
+pub same_of : (a b : ℕ) → (a == b) ≡ true → a ≡ b
+same_of a b h = grind (arith, nat_tests)
 
-some_same : (a b : ℕ) → Some a ≡ Some b → a ≡ b
+pub and_true : (a b : Bool) → a && b ≡ true → (a ≡ true) × (b ≡ true)
+and_true true b h = (refl, h)
+and_true false b h = absurd (false≢true h)
+
+pub and_false : (a b : Bool) → a ≡ true → a && b ≡ false → b ≡ false
+and_false true b e h = h
+and_false false b e h = absurd (false≢true e)
+
+pub or_true : (a b : Bool) → a || b ≡ true → (a ≡ true) ⊎ (b ≡ true)
+or_true true b h = inl refl
+or_true false b h = inr h
+
+pub or_false : (a b : Bool) → a || b ≡ false → (a ≡ false) × (b ≡ false)
+or_false true b h = absurd (false≢true (sym h))
+or_false false b h = (refl, h)
+
+pub not_is : (b : Bool) → not b ≡ true → b ≡ false
+not_is true h = absurd (false≢true h)
+not_is false h = refl
+
+pub not_false : (b : Bool) → not b ≡ false → b ≡ true
+not_false true h = refl
+not_false false h = absurd (false≢true (sym h))
+
+pub not_true : (b : Bool) → (b ≡ true → ⊥) → b ≡ false
+not_true true h = absurd (h refl)
+not_true false h = refl
+
+pub some_same : {A : Type 0} → (a b : A) → Some a ≡ Some b → a ≡ b
 some_same a b h = cc
 
--- the least that passes is below the bound
-pub least_below : (p : ℕ → Bool) (n k : ℕ) → least p n ≡ Some k → k < n
-least_below p zero k h = cc
-least_below p (suc n) k h = by_rest (least p n) (least_below p n) (p n) h
+-- nothing below passes
+pub least_all : (p : ℕ → Bool) (n : ℕ) → least p n ≡ None → (v : ℕ) → v < n → p v ≡ false
+least_all p zero h v less = absurd (omega arith)
+least_all p (suc n) h v less = by_rest (λ e below. least_all p n e v below) (least p n) refl (p n) refl h
   where
-    by_rest : (o : Option ℕ) → ((j : ℕ) → o ≡ Some j → j < n) → (b : Bool) → option_or_else o (some_if b n) ≡ Some k → k < suc n
-    by_rest None below true h = let e : n ≡ k = some_same n k h in omega arith
-    by_rest None below false h = cc
-    by_rest (Some j) below b h = let l = below k h in omega arith
+    by_rest : (least p n ≡ None → v < n → p v ≡ false) → (o : Option ℕ) → least p n ≡ o → (b : Bool) → p n ≡ b → or_else o (some_if b n) ≡ None → p v ≡ false
+    by_rest more None e false f h = elim (cases_lt v n) [
+      | inl below ↦ more e below
+      | inr above ↦ let same : n ≡ v = omega arith in subst (λ (x : ℕ). p x ≡ false) same f
+    ]
+    by_rest more None e true f h = cc
+    by_rest more (Some k) e b f h = cc
+
+pub record IsLeast (p : ℕ → Bool) (n k : ℕ) : Type 0 where
+  pub below : k < n
+  pub passes : p k ≡ true
+  pub first : (v : ℕ) → v < k → p v ≡ false
+
+pub least_some : (p : ℕ → Bool) (n k : ℕ) → least p n ≡ Some k → IsLeast p n k
+least_some p zero k h = cc
+least_some p (suc n) k h = by_rest (λ e. least_some p n k e) (least p n) refl (p n) refl h
+  where
+    by_rest : (least p n ≡ Some k → IsLeast p n k) → (o : Option ℕ) → least p n ≡ o → (b : Bool) → p n ≡ b → or_else o (some_if b n) ≡ Some k → IsLeast p (suc n) k
+    by_rest more None e false f h = cc
+    by_rest more None e true f h = subst (λ (x : ℕ). IsLeast p (suc n) x) (some_same n k h) (record { below = omega arith; passes = f; first = least_all p n e })
+    by_rest more (Some j) e b f h = let r = more (e ∙ h) in record { below = let l = r.below in omega arith; passes = r.passes; first = r.first }

@@ -1,14 +1,52 @@
-pub mod Least
-pub mod Range
-pub mod Joined
-pub mod Pieces
-pub mod Shape
-pub mod Plain
-pub mod Writing
-pub mod Tree
-pub mod TreeOrder
-pub mod BuiltFronts
-pub mod Spelling
-pub mod Counts
-pub mod BuiltTexts
-pub mod RoundTrip
+mod Least
+mod Walk
+mod Counting
+mod Once
+mod Shape
+mod OrderLaw
+mod OpenLaw
+mod RingLaw
+mod Pairs
+mod RoleText
+mod Along
+mod RingSteps
+mod TextRead
+mod Hits
+mod BondCounts
+mod Orders
+mod Whole
+mod Sums
+mod Simple
+mod Placed
+mod BondSums
+mod SameBonds
+mod Closed
+mod StructureLaw
+mod StructureRows
+mod Roots
+mod PartsLow
+mod RingCount
+mod NumbersLow
+mod TokenSpelled
+mod EachToken
+mod KindsRead
+mod TokensWritten
+mod AtomsRead
+mod Structured
+mod NoneStands
+mod RoundTrip
+mod LowNumbers
+mod SomeAtoms
+mod Rows
+mod Stacked
+mod Lowest
+mod Advance
+mod BondOrders
+mod OpenNumbers
+mod Partners
+mod OpenedRings
+mod LaterChildren
+mod Befores
+mod TextSteps
+mod WholeTrip
+pub mod NoBlanks

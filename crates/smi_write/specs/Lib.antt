@@ -1,1 +1,9 @@
+pub mod Nested
+pub mod Lesser
+pub mod OpenRings
+pub mod Opening
+pub mod Progress
+pub mod WrittenOrder
+pub mod Texts
+pub mod Structure
 pub mod ReadBack

@@ -1,5 +1,5 @@
 -- What a written text is read as (this project's own).
-use Rattle.std.specs.Prelude.{◌≡◌, ℕ, ◌<◌, List, length}
+use Rattle.std.specs.Prelude.{◌≡◌, ℕ, List}
 use Rattle.mc_base.specs.declared.ids.AtomId.{AtomId}
 use Rattle.mc_mol.specs.Molecule.{Molecule}
 use Rattle.mc_mol.specs.Same.{Same}
@@ -9,7 +9,6 @@ use Rattle.smi_mean.specs.Rules.{SmilesStands}
 -- in which the atoms stand in the text.
 pub record IsReadBack (m : Molecule) (text : List ℕ) (order : List AtomId) : Type 0 where
   pub molecule : Molecule
-  pub some : 0 < length text
   pub reads : SmilesStands text molecule
   pub only : (other : Molecule) → SmilesStands text other → other ≡ molecule
   pub same : Same m molecule order

@@ -1,99 +1,143 @@
-ghost use Rattle.std.specs.List.{list_any};
-ghost use Rattle.std.specs.Prelude.{◌≡◌, ◌≢◌, ◌+◌, ◌<◌, ◌≤◌, ◌&&◌, All, IfOk, length, true, false, not, None, Some, reverse};
-ghost use Rattle.mc_mol.specs.Molecule.{are_joined};
+//! The order in which the atoms of a molecule are written: a walk with a stack, which goes on behind the
+//! latest atom that has an unwritten neighbour.
+
+ghost use Rattle.std.specs.Prelude.{◌≡◌, ◌++◌, [], ◌∷◌, ◌+◌, ◌-◌, ◌^◌, ◌<◌, ◌≤◌, ℕ, All, OnOk, IfOk, length, slice_set, slice_index_or, None, ◌==◌};
 ghost use Rattle.mc_mol.specs.WellFormed.{IsMolecule};
-ghost use Rattle.smi_mean.specs.Written.{is_written, least_unwritten, least_unwritten_neighbour, next_behind, next_step, order};
+ghost use Rattle.smi_mean.specs.Order.{graph_of, order, steps, atoms, parents, place, unwritten_neighbour};
+ghost use Rattle.smi_write.specs.Progress.{IsWalkWith, left};
+ghost use Rattle.smi_write.specs.WrittenOrder.{IsWrittenOrder};
+ghost use Rattle.smi_write.specs.Lesser.{lesser, lowest};
 
-use mc_base::AtomId;
-use mc_mol::Mol;
-use smi_mean::Step;
-use std::alloc::{AllocError, Global};
+use mc_base::{AtomId, NoMemory};
+use mc_mol::{HalfEdge, Mol};
+use std::alloc::Global;
 
-fn is_written(written: &[Step], u: u32) -> bool
-    ensures { result ≡ is_written written.now u }
-{
-    written.iter().any(|step| step.atom == u)
+/// How far the atoms are written.
+#[derive(Drop)]
+struct Walk {
+    /// the atoms by place
+    atoms: Vec<AtomId>,
+    /// by place, the place of the atom's parent, from 1, or 0
+    parents: Vec<u32>,
+    /// the place of each atom, from 1, or 0 where it isn't written
+    places: Vec<u32>,
+    /// the written atoms that may have unwritten neighbours, the latest last
+    stack: Vec<u32>,
 }
 
-fn is_joined(mol: &Mol, u: u32, v: u32) -> bool
-    requires molecule { IsMolecule mol.now }
-    requires u { u < length mol.now.atoms }
-    ensures { result ≡ are_joined mol.now.bonds u v }
-{
-    if u == v {
-        false
-    } else {
-        mol.are_joined(AtomId(u), AtomId(v))
+impl Walk {
+    /// Writes an atom behind the others.
+    fn write(&mut self, atom: u32, parent: u32) -> Result<(), NoMemory>
+        requires within { atom < length self.old.places.items }
+        requires few { length self.old.atoms.items < 2 ^ 32 - 1 }
+        ensures atoms { OnOk result (self.new.atoms.items ≡ self.old.atoms.items ++ record { 0 = atom } ∷ []) }
+        ensures parents { OnOk result (self.new.parents.items ≡ self.old.parents.items ++ parent ∷ []) }
+        ensures places { OnOk result (self.new.places.items ≡ slice_set self.old.places.items atom (length self.old.atoms.items + 1)) }
+        ensures stack { OnOk result (self.new.stack.items ≡ self.old.stack.items ++ atom ∷ []) }
+    {
+        self.places[atom as usize] = self.atoms.len() as u32 + 1;
+        self.atoms.push(AtomId(atom))?;
+        self.parents.push(parent)?;
+        self.stack.push(atom)?;
+        Ok(())
+    }
+
+    /// The least unwritten neighbour of an atom that is just taken off the stack.
+    fn neighbour(&self, mol: &Mol, atom: u32) -> Option<u32>
+        requires { IsWalkWith mol.now self.now (atom ∷ []) }
+        ensures { result ≡ unwritten_neighbour (graph_of mol.now) (steps (graph_of mol.now) (length self.now.atoms.items)) atom }
+    {
+        least_unwritten(mol.bonds_of(AtomId(atom)), &self.places)
+    }
+
+    /// Goes on behind an atom that is just taken off the stack: to its least unwritten neighbour, and else
+    /// it stays off.
+    fn visit(&mut self, mol: &Mol, atom: u32) -> Result<(), NoMemory>
+        requires walk { IsWalkWith mol.now self.old (atom ∷ []) }
+        requires few { length mol.now.atoms ≤ 999 }
+        ensures walk { OnOk result (IsWalkWith mol.now self.new []) }
+        ensures left { OnOk result (left mol.now self.new ≡ left mol.now self.old) }
+        ensures kept { OnOk result ((v : ℕ) → 0 < slice_index_or self.old.places.items v 0 → 0 < slice_index_or self.new.places.items v 0) }
+    {
+        if let Some(next) = self.neighbour(mol, atom) {
+            let parent = self.places[atom as usize];
+            self.stack.push(atom)?;
+            self.write(next, parent)?;
+        }
+        Ok(())
+    }
+
+    /// Writes all atoms that are reached from those on the stack.
+    fn finish(&mut self, mol: &Mol) -> Result<(), NoMemory>
+        requires walk { IsWalkWith mol.now self.old [] }
+        requires few { length mol.now.atoms ≤ 999 }
+        ensures walk { OnOk result (IsWalkWith mol.now self.new []) }
+        ensures empty { OnOk result (self.new.stack.items ≡ []) }
+        ensures kept { OnOk result ((v : ℕ) → 0 < slice_index_or self.old.places.items v 0 → 0 < slice_index_or self.new.places.items v 0) }
+    {
+        while let Some(atom) = self.stack.pop() {
+            self.visit(mol, atom)?;
+        }
+        Ok(())
     }
 }
 
-fn least_unwritten_neighbour(mol: &Mol, written: &[Step], u: u32) -> Option<u32>
-    requires { u < length mol.now.atoms }
-    ensures { result ≡ least_unwritten_neighbour mol.now written.now u }
+/// The lesser of two numbers, of which the first may be missing.
+pub fn lesser(best: Option<u32>, n: u32) -> Option<u32>
+    ensures { result ≡ lesser best n }
 {
-    for v in 0..mol.atom_count() {
-        if is_joined(mol, u, v) && !is_written(written, v) {
-            return Some(v);
+    match best {
+        Some(b) if b <= n => Some(b),
+        _ => Some(n),
+    }
+}
+
+/// The least unwritten atom to which one of these half-edges leads.
+fn least_unwritten(halves: &[HalfEdge], places: &[u32]) -> Option<u32>
+    requires { All (λ half. half.to.0 < length places.now) halves.now }
+    ensures { result ≡ lowest (λ half. slice_index_or places.now half.to.0 0 == 0) (λ half. half.to.0) None halves.now }
+{
+    let mut best = None;
+    for half in halves {
+        if places[half.to.0 as usize] == 0 {
+            best = lesser(best, half.to.0);
         }
     }
-    None
+    best
 }
 
-fn least_unwritten(mol: &Mol, written: &[Step]) -> Option<u32>
-    ensures { result ≡ least_unwritten mol.now written.now }
+/// The atoms in the order in which they are written.
+#[derive(Drop)]
+pub struct WrittenAtoms {
+    /// the atoms by place
+    pub atoms: Vec<AtomId>,
+    /// by place, the place of the atom's parent, from 1, or 0 where it has none
+    pub parents: Vec<u32>,
+    /// the place of each atom, from 1
+    pub places: Vec<u32>,
+}
+
+/// The order in which the atoms of a molecule are written.
+pub fn order(alloc: Global, mol: &Mol) -> Result<WrittenAtoms, NoMemory>
+    ensures written { IfOk result (λ found. IsWrittenOrder mol.now found) }
+    ensures molecule { IsMolecule mol.now }
 {
-    for v in 0..mol.atom_count() {
-        if !is_written(written, v) {
-            return Some(v);
+    let count = mol.atom_count();
+    let mut walk = Walk {
+        atoms: Vec::with_capacity(alloc, count as usize)?,
+        parents: Vec::with_capacity(alloc, count as usize)?,
+        places: vec![in alloc; 0; count as usize]?,
+        stack: Vec::with_capacity(alloc, count as usize)?,
+    };
+    for root in 0..count {
+        if walk.places[root as usize] == 0 {
+            walk.write(root, 0)?;
+            walk.finish(mol)?;
         }
     }
-    None
-}
-
-/// The step behind the latest written atom that has an unwritten neighbour.
-fn next_behind(mol: &Mol, written: &[Step]) -> Option<Step>
-    requires { All (λ step. step.atom < length mol.now.atoms) written.now }
-    ensures { result ≡ next_behind mol.now written.now (reverse written.now) }
-{
-    let mut i = written.len();
-    while i > 0 {
-        i -= 1;
-        let parent = written[i].atom;
-        if let Some(atom) = least_unwritten_neighbour(mol, written, parent) {
-            return Some(Step {
-                atom,
-                parent: Some(parent),
-            });
-        }
-    }
-    None
-}
-
-fn next_step(mol: &Mol, written: &[Step]) -> Option<Step>
-    requires { All (λ step. step.atom < length mol.now.atoms) written.now }
-    ensures { result ≡ next_step mol.now written.now }
-{
-    match next_behind(mol, written) {
-        Some(step) => Some(step),
-        None => match least_unwritten(mol, written) {
-            Some(atom) => Some(Step { atom, parent: None }),
-            None => None,
-        },
-    }
-}
-
-/// The atoms in the order in which they are written, with their parents: the plain form, which looks over
-/// all atoms for each.
-pub fn order(alloc: Global, mol: &Mol) -> Result<Vec<Step>, AllocError>
-    ensures order { IfOk result (λ found. found.items ≡ order mol.now) }
-    ensures in_range { IfOk result (λ found. All (λ step. step.atom < length mol.now.atoms) found.items) }
-    ensures few { length mol.now.atoms ≤ 999 }
-{
-    let mut written = Vec::new(alloc);
-    for _ in 0..mol.atom_count() {
-        if let Some(step) = next_step(mol, &written) {
-            written.push(step)?;
-        }
-    }
-    Ok(written)
+    Ok(WrittenAtoms {
+        atoms: walk.atoms,
+        parents: walk.parents,
+        places: walk.places,
+    })
 }

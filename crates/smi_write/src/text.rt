@@ -1,43 +1,33 @@
-ghost use Rattle.std.specs.List.{list_any};
-ghost use Rattle.std.specs.Prelude.{◌≡◌, [], ◌∷◌, All, if◌then◌else◌, ◌+◌, ◌<◌, ◌++◌, IfOk, OnOk, length, None, flat_map};
-ghost use Rattle.smi_mean.specs.Written.{is_option, is_parent, is_first_child, has_no_child, is_last_child, piece, spelling, tokens_of};
+//! The text of a molecule in its written order.
 
-use mc_base::{AtomId, NoMemory, Text};
+ghost use Rattle.std.specs.Prelude.{◌≡◌, ◌++◌, [], ◌∷◌, ◌+◌, ◌<◌, ◌≤◌, ℕ, IfOk, OnOk, length, drop, flat_map, slice_index_or, not, if◌then◌else◌};
+ghost use Rattle.mc_mol.specs.Molecule.{bond_sum};
+ghost use Rattle.mc_mol.specs.WellFormed.{IsMolecule};
+ghost use Rattle.smi_lex.specs.declared.token.TokenKind.TheVariants.{Enter, Leave};
+ghost use Rattle.smi_mean.specs.Order.{graph_of, order, parents};
+ghost use Rattle.smi_mean.specs.RingNumbers.{has};
+ghost use Rattle.smi_mean.specs.Written.{at, bond_order, before_atom, atom_token, spelling, written_text, if_not, mark_tokens, symbol_of};
+ghost use Rattle.smi_write.specs.WrittenOrder.{IsWrittenOrder, LastChildren};
+
+use crate::atom_text::{push_atom, push_symbol};
+use crate::bonds::{bond_sums, order_between};
+use crate::order::WrittenAtoms;
+use crate::ring_numbers::push_rings;
+use mc_base::{NoMemory, Text};
 use mc_mol::Mol;
-use smi_mean::Step;
 use std::alloc::Global;
 
-fn is_option(option: Option<u32>, n: u32) -> bool
-    ensures { result ≡ is_option option n }
+/// By the place of a parent, from 1, the place, from 0, of its last child.
+fn last_children(alloc: Global, parents: &[u32]) -> Result<Vec<u32>, NoMemory>
+    requires few { length parents.now ≤ 999 }
+    requires within { (k : ℕ) → k < length parents.now → slice_index_or parents.now k 0 ≤ length parents.now }
+    ensures { IfOk result (λ last. LastChildren parents.now (length parents.now) last.items) }
 {
-    match option {
-        Some(k) => k == n,
-        None => false,
+    let mut last = vec![in alloc; 0; parents.len() + 1]?;
+    for place in 0..parents.len() {
+        last[parents[place] as usize] = place as u32;
     }
-}
-
-fn is_first_child(before: Option<u32>, step: Step) -> bool
-    ensures { result ≡ is_first_child before step }
-{
-    match step.parent {
-        Some(parent) => is_option(before, parent),
-        None => true,
-    }
-}
-
-fn has_child(later: &[Step], parent: u32) -> bool
-    ensures { result ≡ list_any (λ t. is_option t.parent parent) later.now }
-{
-    later.iter().any(|t| is_option(t.parent, parent))
-}
-
-fn is_last_child(step: Step, later: &[Step]) -> bool
-    ensures { result ≡ is_last_child step later.now }
-{
-    match step.parent {
-        Some(parent) => !has_child(later, parent),
-        None => true,
-    }
+    Ok(last)
 }
 
 fn push_unless(text: &mut Text, holds: bool, byte: u8) -> Result<(), NoMemory>
@@ -49,33 +39,84 @@ fn push_unless(text: &mut Text, holds: bool, byte: u8) -> Result<(), NoMemory>
     Ok(())
 }
 
-/// The bytes of one atom, with the `)` and `(` before it.
-fn push_piece(
+/// The branches and the bond of an atom that has a parent. `later` says whether a later atom has the same
+/// parent.
+fn push_bond(text: &mut Text, after_parent: bool, later: bool, order: u8) -> Result<(), NoMemory>
+    ensures { OnOk result (text.new ≡ text.old ++ flat_map spelling (if_not after_parent Leave ++ (if_not (not later) Enter ++ mark_tokens (symbol_of order)))) }
+{
+    push_unless(text, after_parent, b')')?;
+    push_unless(text, !later, b'(')?;
+    push_symbol(text, order)
+}
+
+/// What stands before an atom.
+fn push_before(
     text: &mut Text,
     mol: &Mol,
-    before: Option<u32>,
-    step: Step,
-    later: &[Step],
+    written: &WrittenAtoms,
+    last: &[u32],
+    place: u32,
 ) -> Result<(), NoMemory>
-    requires { step.atom < length mol.now.atoms }
-    ensures { OnOk result (text.new ≡ text.old ++ flat_map spelling (piece mol.now before step later.now)) }
+    requires written { IsWrittenOrder mol.now written.now }
+    requires molecule { IsMolecule mol.now }
+    requires last { LastChildren written.now.parents.items (length mol.now.atoms) last.now }
+    requires within { place < length mol.now.atoms }
+    ensures { OnOk result (text.new ≡ text.old ++ flat_map spelling (before_atom (λ j l. bond_order (graph_of mol.now) j l) place
+        (slice_index_or written.now.parents.items place 0) (drop (place + 1) written.now.parents.items))) }
 {
-    push_unless(text, is_first_child(before, step), b')')?;
-    push_unless(text, is_last_child(step, later), b'(')?;
-    text.extend(mol.atom(AtomId(step.atom)).element.symbol())?;
+    let parent = written.parents[place as usize];
+    if parent == 0 {
+        return push_unless(text, place == 0, b'.');
+    }
+    let later = last[parent as usize] > place;
+    let order = order_between(
+        mol,
+        written.atoms[parent as usize - 1],
+        written.atoms[place as usize],
+    );
+    push_bond(text, parent == place, later, order)?;
     Ok(())
 }
 
-/// The text of these steps.
-pub fn text_of(alloc: Global, mol: &Mol, steps: &[Step]) -> Result<Text, NoMemory>
-    requires { All (λ step. step.atom < length mol.now.atoms) steps.now }
-    ensures { IfOk result (λ text. text ≡ flat_map spelling (tokens_of mol.now None steps.now)) }
+/// An atom with what stands before it.
+fn push_place(
+    text: &mut Text,
+    mol: &Mol,
+    written: &WrittenAtoms,
+    sums: &[u32],
+    last: &[u32],
+    place: u32,
+) -> Result<(), NoMemory>
+    requires written { IsWrittenOrder mol.now written.now }
+    requires molecule { IsMolecule mol.now }
+    requires sum_count { length sums.now ≡ length mol.now.atoms }
+    requires sums { (u : ℕ) → slice_index_or sums.now u 0 ≡ bond_sum mol.now.bonds u }
+    requires last { LastChildren written.now.parents.items (length mol.now.atoms) last.now }
+    requires within { place < length mol.now.atoms }
+    ensures { OnOk result (text.new ≡ text.old ++ (flat_map spelling (before_atom (λ j l. bond_order (graph_of mol.now) j l) place
+        (slice_index_or written.now.parents.items place 0) (drop (place + 1) written.now.parents.items))
+        ++ spelling (atom_token mol.now (at (graph_of mol.now) place)))) }
 {
+    push_before(text, mol, written, last, place)?;
+    let id = written.atoms[place as usize];
+    push_atom(text, mol.atom(id), sums[id.0 as usize])?;
+    Ok(())
+}
+
+/// The text of a molecule in its written order.
+pub fn text_of(alloc: Global, mol: &Mol, written: &WrittenAtoms) -> Result<Text, NoMemory>
+    requires written { IsWrittenOrder mol.now written.now }
+    requires molecule { IsMolecule mol.now }
+    ensures { IfOk result (λ text. text ≡ written_text mol.now) }
+{
+    let sums = bond_sums(alloc, mol)?;
+    let last = last_children(alloc, &written.parents)?;
+    let mut rings = Vec::new(alloc);
+    let mut closing = Vec::new(alloc);
     let mut text = Text::new(alloc);
-    let mut before = None;
-    for (i, step) in steps.iter().enumerate() {
-        push_piece(&mut text, mol, before, *step, &steps[i + 1..])?;
-        before = Some(step.atom);
+    for place in 0..mol.atom_count() {
+        push_place(&mut text, mol, written, &sums, &last, place)?;
+        push_rings(&mut text, mol, written, &mut rings, &mut closing, place)?;
     }
     Ok(text)
 }

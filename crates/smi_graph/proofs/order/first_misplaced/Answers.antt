@@ -22,13 +22,16 @@ loop-i-preserved c =
 at_end : (ks : List Role) (i : ℕ) → i ≡ length ks → misplaced_at ks (length ks) ≡ is_misplaced (tokens_before ks i) None
 at_end ks i e = misplaced_end ks ∙ ap (λ (n : ℕ). is_misplaced (tokens_before ks n) None) (sym e)
 
-pub returns-then-may_end-clause-none : goal.returns-then-may_end-clause-none
-returns-then-may_end-clause-none c =
+pub returns-then-may_end : goal.returns-then-may_end
+returns-then-may_end c =
     let end : c.loop-i.i ≡ length c.args.roles.now = omega arith in
     below_more _ _ (λ j below. c.loop-i.invariant.placed j (omega arith))
     (at_end c.args.roles.now c.loop-i.i end ∙ c.if-may_end.ensures (tokens_before c.args.roles.now c.loop-i.i) c.loop-i.invariant.behind)
 
-pub returns-else-may_end-clause-found : goal.returns-else-may_end-clause-found
-returns-else-may_end-clause-found c =
-    let end : c.loop-i.i ≡ length c.args.roles.now = omega arith in
-    (omega arith, at_end c.args.roles.now c.loop-i.i end ∙ c.if-may_end.ensures (tokens_before c.args.roles.now c.loop-i.i) c.loop-i.invariant.behind)
+pub returns-else-may_end : goal.returns-else-may_end
+returns-else-may_end c =
+    let end : c.loop-i.i ≡ length c.args.roles.now = omega arith in (
+      omega arith,
+      at_end c.args.roles.now c.loop-i.i end ∙ c.if-may_end.ensures (tokens_before c.args.roles.now c.loop-i.i) c.loop-i.invariant.behind,
+      λ j below. c.loop-i.invariant.placed j (omega arith),
+    )

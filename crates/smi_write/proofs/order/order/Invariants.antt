@@ -1,6 +1,11 @@
-use Rattle.std.proofs.Common.{◌≡◌}
-use Rattle.smi_mean.specs.Written.{steps}
+use Rattle.std.proofs.Common.{◌≡◌, ◌<◌, ℕ, []}
+use Rattle.std.specs.Prelude.{slice_index_or}
+use Rattle.smi_write.specs.Progress.{IsWalkWith}
 use Rattle.smi_write.proofs.order.order.Given as goal
 
-abbrev pub invariant-loop : goal.invariant-loop
-invariant-loop l = l.written.items ≡ steps l.mol l.counter
+abbrev pub invariant-loop-root : goal.invariant-loop-root
+invariant-loop-root l = record {
+  walk : IsWalkWith l.mol l.walk [];
+  empty : l.walk.stack.items ≡ [];
+  earlier : (v : ℕ) → v < l.root → 0 < slice_index_or l.walk.places.items v 0;
+}

@@ -1,7 +1,12 @@
-use Rattle.std.proofs.Common.{◌≡◌, ◌++◌, drop, None}
+use Rattle.std.proofs.Common.{◌≡◌, ◌++◌}
 use Rattle.std.specs.Prelude.{flat_map}
-use Rattle.smi_mean.specs.Written.{spelling, tokens_of}
+use Rattle.smi_mean.specs.Written.{spelling, written_text}
+use Rattle.smi_write.specs.OpenRings.{Holds}
+use Rattle.smi_write.specs.Texts.{rest_tokens, open_pairs}
 use Rattle.smi_write.proofs.text.text_of.Given as goal
 
-abbrev pub invariant-loop-i : goal.invariant-loop-i
-invariant-loop-i l = l.text ++ flat_map spelling (tokens_of l.mol l.before (drop l.i l.steps)) ≡ flat_map spelling (tokens_of l.mol None l.steps)
+abbrev pub invariant-loop-place : goal.invariant-loop-place
+invariant-loop-place l = record {
+  text : l.text ++ flat_map spelling (rest_tokens l.mol l.place) ≡ written_text l.mol;
+  rings : Holds l.rings.items (open_pairs l.mol l.place);
+}

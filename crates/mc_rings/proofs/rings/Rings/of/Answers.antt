@@ -1,0 +1,41 @@
+use Rattle.std.proofs.Common.{◌≡◌, ℕ, List, length, subst, sym, refl, arith}
+use Rattle.mc_rings.specs.Blocks.{Tree, IsTree}
+use Rattle.mc_rings.specs.Counts.{AreBelow}
+use Rattle.mc_rings.specs.Rings.{AreBlocks}
+use Rattle.mc_rings.proofs.BlockOrders.{order_of}
+use Rattle.mc_rings.proofs.rings.Rings.of.Goals as goal
+
+pub ring_sizes-requires-clause-blocks : goal.ring_sizes-requires-clause-blocks
+ring_sizes-requires-clause-blocks c = subst (λ (xs : List ℕ). AreBlocks c.args.mol.now.bonds xs) (sym c.deref-2.ensures.value) c.in_ok-blocks.ensures.are
+
+pub ring_sizes-requires-clause-below : goal.ring_sizes-requires-clause-below
+ring_sizes-requires-clause-below c =
+    let count : c.len.result ≡ length c.in_ok-tree.tree.firsts.items = let len = c.len.ensures in omega arith in
+    subst (λ (n : ℕ). AreBelow c.deref-2.result.now n) (sym count)
+    (subst (λ (xs : List ℕ). AreBelow xs (length c.in_ok-tree.tree.firsts.items)) (sym c.deref-2.ensures.value) c.in_ok-blocks.ensures.below)
+
+pub returns : goal.returns
+returns c =
+    let tree : Tree = record {
+      bonds = c.args.mol.now.bonds;
+      atoms = length c.args.mol.now.atoms;
+      order = c.in_ok-forest.forest.order.items;
+      places = c.in_ok-forest.forest.places.items;
+      parents = c.in_ok-forest.forest.parents.items;
+      roots = c.in_ok-forest.forest.roots.items;
+      heads = c.in_ok-tree.tree.heads.items;
+      firsts = c.in_ok-tree.tree.firsts.items;
+      above = c.in_ok-tree.tree.above.items;
+    } in
+    let is : IsTree tree = record { forest = c.in_ok-forest.ensures; blocked = c.in_ok-tree.ensures.blocked } in
+    record {
+      count = c.in_ok-sizes.ensures.count;
+      sizes = c.in_ok-sizes.ensures.sizes;
+      blocks = c.in_ok-blocks.ensures.are;
+      independent = c.independent_count-independent.ensures;
+      order = order_of tree c.args.mol.now.atoms c.args.mol.now.centres c.args.mol.now.sides c.in_ok-blocks.blocks.items c.in_ok-order.order.items refl
+          (record { is = is; count = c.in_ok-blocks.ensures.are.count; each = c.in_ok-blocks.ensures.each }) (record { permuted = c.in_ok-order.ensures.permuted; sorted = c.in_ok-order.ensures.sorted });
+    }
+
+pub invariant_of-result : goal.invariant_of-result
+invariant_of-result c = c.in_ok-tree.ensures.few

@@ -1,0 +1,5 @@
+pub mod Joining
+pub mod Between
+pub mod Neighbours
+pub mod SidesDecided
+pub mod Verdicts

@@ -1,0 +1,4 @@
+pub mod Agreement
+pub mod Between
+pub mod Carried
+pub mod Differences

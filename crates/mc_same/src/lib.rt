@@ -1,0 +1,12 @@
+//! The map checker: whether two molecules are the same under a map of their atoms, and the first difference
+//! where they aren't.
+#![tactic(auto)]
+
+mod atoms;
+mod bonds;
+mod centres;
+mod check;
+mod even;
+mod sides;
+
+pub use check::check_map;

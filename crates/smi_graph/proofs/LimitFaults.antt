@@ -1,0 +1,152 @@
+-- The first limit that a text exceeds.
+use Rattle.std.proofs.Common.{arith, ◌≡◌, ℕ, zero, suc, ◌+◌, ◌≤◌, ◌<◌, List, length, Bool, true, false, Some, None, refl, ap, inl, inr}
+use Rattle.std.specs.Prelude.{slice_get, if◌then◌else◌}
+use Rattle.std.proofs.lemmas.Bool.{cases_lt}
+use Rattle.mc_base.specs.declared.kind.Kind.{Kind}
+use Rattle.mc_base.specs.declared.kind.Kind.TheVariants.{LimitAtoms, LimitBonds, LimitRings, LimitIsotope, LimitClass, LimitCharge}
+use Rattle.mc_base.specs.Kinds.{number}
+use Rattle.mc_mol.specs.declared.parts.Bond as bond
+use Rattle.mc_mol.specs.Parts.{count_below, independent_rings}
+use Rattle.smi_graph.specs.declared.skeleton.SkelAtom.{SkelAtom}
+use Rattle.smi_graph.specs.Reading.{IsFirstOf}
+use Rattle.smi_graph.specs.Rules.{limit, ring_limit, fails, is_heavy, is_high_class, is_overcharged, IsAbove, AtomFails, BeyondAt}
+use Rattle.smi_graph.specs.Faults.{IsFirstFault}
+use Rattle.smi_graph.proofs.TokenFaults.{not_both, past}
+
+-- no more numbers pass than there are
+pub count_low : (p : ℕ → Bool) (n : ℕ) → count_below p n ≤ n
+count_low p zero = omega arith
+count_low p (suc n) = by_test (p n) (count_low p n)
+  where
+    by_test : (t : Bool) → count_below p n ≤ n → count_below p n + (if t then 1 else 0) ≤ suc n
+    by_test true le = omega arith
+    by_test false le = omega arith
+
+above_limit : (count most place : ℕ) → count ≤ most → IsAbove count most place → ⊥
+above_limit count most place few w = let more = w.1 in omega arith
+
+fails_past : (all : List SkelAtom) (p : SkelAtom → Bool) (k : ℕ) → length all ≤ k → fails p (slice_get all k) ≡ false
+fails_past all p k le = ap (fails p) (past all k le)
+
+no_atom : (all : List SkelAtom) (p : SkelAtom → Bool) (place : ℕ) → IsFirstOf (λ k. fails p (slice_get all k)) (length all) None → AtomFails all p place → ⊥
+no_atom all p place none (k, at, holds) = elim (cases_lt k (length all)) [
+  | inl less ↦ not_both _ holds (none k less)
+  | inr more ↦ not_both _ holds (fails_past all p k (omega arith))
+]
+
+first_atom : (all : List SkelAtom) (p : SkelAtom → Bool) (i place : ℕ) → IsFirstOf (λ k. fails p (slice_get all k)) (length all) (Some i) → AtomFails all p place → i + 1 ≤ place
+first_atom all p i place first (k, at, holds) = elim (cases_lt k i) [
+  | inl less ↦ absurd (not_both _ holds (first.2 k less))
+  | inr more ↦ omega arith
+]
+
+before_atoms : (all : List SkelAtom) (bs : List bond.Bond) → (kind : Kind) (place : ℕ) → number kind < 28 → BeyondAt all bs kind place → ⊥
+before_atoms all bs LimitAtoms place less w = omega arith
+before_atoms all bs LimitBonds place less w = omega arith
+before_atoms all bs LimitRings place less w = omega arith
+before_atoms all bs LimitIsotope place less w = omega arith
+before_atoms all bs LimitClass place less w = omega arith
+before_atoms all bs LimitCharge place less w = omega arith
+before_atoms all bs _ place less w = w
+
+pub shows_atoms : (all : List SkelAtom) (bs : List bond.Bond) (n : ℕ) → (n ≡ length all) × (limit < n) → IsFirstFault (BeyondAt all bs) (Some (record { kind = LimitAtoms; place = n }))
+shows_atoms all bs n h = record {
+  stands = (h.0, let e = h.0 in let m = h.1 in omega arith);
+  least = λ place w. let e = w.0 in let e' = h.0 in omega arith;
+  first = before_atoms all bs;
+  reason = (refl, refl);
+}
+
+before_bonds : (all : List SkelAtom) (bs : List bond.Bond) → length all ≤ limit → (kind : Kind) (place : ℕ) → number kind < 29 → BeyondAt all bs kind place → ⊥
+before_bonds all bs a LimitAtoms place less w = above_limit _ _ place a w
+before_bonds all bs a LimitBonds place less w = omega arith
+before_bonds all bs a LimitRings place less w = omega arith
+before_bonds all bs a LimitIsotope place less w = omega arith
+before_bonds all bs a LimitClass place less w = omega arith
+before_bonds all bs a LimitCharge place less w = omega arith
+before_bonds all bs a _ place less w = w
+
+pub shows_bonds : (all : List SkelAtom) (bs : List bond.Bond) (n : ℕ) → length all ≤ limit → (n ≡ length bs) × (limit < n) → IsFirstFault (BeyondAt all bs) (Some (record { kind = LimitBonds; place = n }))
+shows_bonds all bs n a h = record {
+  stands = (h.0, let e = h.0 in let m = h.1 in omega arith);
+  least = λ place w. let e = w.0 in let e' = h.0 in omega arith;
+  first = before_bonds all bs a;
+  reason = (refl, refl);
+}
+
+before_rings : (all : List SkelAtom) (bs : List bond.Bond) → length all ≤ limit → length bs ≤ limit → (kind : Kind) (place : ℕ) → number kind < 30 → BeyondAt all bs kind place → ⊥
+before_rings all bs a b LimitAtoms place less w = above_limit _ _ place a w
+before_rings all bs a b LimitBonds place less w = above_limit _ _ place b w
+before_rings all bs a b LimitRings place less w = omega arith
+before_rings all bs a b LimitIsotope place less w = omega arith
+before_rings all bs a b LimitClass place less w = omega arith
+before_rings all bs a b LimitCharge place less w = omega arith
+before_rings all bs a b _ place less w = w
+
+pub shows_rings : (all : List SkelAtom) (bs : List bond.Bond) (n : ℕ) → length all ≤ limit → length bs ≤ limit → (n ≡ independent_rings bs (length all)) × (ring_limit < n) → IsFirstFault (BeyondAt all bs) (Some (record { kind = LimitRings; place = n }))
+shows_rings all bs n a b h = record {
+  stands = (h.0, let e = h.0 in let m = h.1 in omega arith);
+  least = λ place w. let e = w.0 in let e' = h.0 in omega arith;
+  first = before_rings all bs a b;
+  reason = (refl, refl);
+}
+
+before_isotope : (all : List SkelAtom) (bs : List bond.Bond) → length all ≤ limit → length bs ≤ limit → independent_rings bs (length all) ≤ ring_limit → (kind : Kind) (place : ℕ) → number kind < 31 → BeyondAt all bs kind place → ⊥
+before_isotope all bs a b c LimitAtoms place less w = above_limit _ _ place a w
+before_isotope all bs a b c LimitBonds place less w = above_limit _ _ place b w
+before_isotope all bs a b c LimitRings place less w = above_limit _ _ place c w
+before_isotope all bs a b c LimitIsotope place less w = omega arith
+before_isotope all bs a b c LimitClass place less w = omega arith
+before_isotope all bs a b c LimitCharge place less w = omega arith
+before_isotope all bs a b c _ place less w = w
+
+pub shows_isotope : (all : List SkelAtom) (bs : List bond.Bond) (n : ℕ) → length all ≤ limit → length bs ≤ limit → independent_rings bs (length all) ≤ ring_limit → IsFirstOf (λ k. fails is_heavy (slice_get all k)) (length all) (Some n) → IsFirstFault (BeyondAt all bs) (Some (record { kind = LimitIsotope; place = n + 1 }))
+shows_isotope all bs n a b c h = record {
+  stands = (n, refl, h.1);
+  least = λ place w. first_atom all is_heavy n place h w;
+  first = before_isotope all bs a b c;
+  reason = (refl, refl);
+}
+
+before_class : (all : List SkelAtom) (bs : List bond.Bond) → length all ≤ limit → length bs ≤ limit → independent_rings bs (length all) ≤ ring_limit → IsFirstOf (λ k. fails is_heavy (slice_get all k)) (length all) None → (kind : Kind) (place : ℕ) → number kind < 32 → BeyondAt all bs kind place → ⊥
+before_class all bs a b c d LimitAtoms place less w = above_limit _ _ place a w
+before_class all bs a b c d LimitBonds place less w = above_limit _ _ place b w
+before_class all bs a b c d LimitRings place less w = above_limit _ _ place c w
+before_class all bs a b c d LimitIsotope place less w = no_atom all is_heavy place d w
+before_class all bs a b c d LimitClass place less w = omega arith
+before_class all bs a b c d LimitCharge place less w = omega arith
+before_class all bs a b c d _ place less w = w
+
+pub shows_class : (all : List SkelAtom) (bs : List bond.Bond) (n : ℕ) → length all ≤ limit → length bs ≤ limit → independent_rings bs (length all) ≤ ring_limit → IsFirstOf (λ k. fails is_heavy (slice_get all k)) (length all) None → IsFirstOf (λ k. fails is_high_class (slice_get all k)) (length all) (Some n) → IsFirstFault (BeyondAt all bs) (Some (record { kind = LimitClass; place = n + 1 }))
+shows_class all bs n a b c d h = record {
+  stands = (n, refl, h.1);
+  least = λ place w. first_atom all is_high_class n place h w;
+  first = before_class all bs a b c d;
+  reason = (refl, refl);
+}
+
+before_charge : (all : List SkelAtom) (bs : List bond.Bond) → length all ≤ limit → length bs ≤ limit → independent_rings bs (length all) ≤ ring_limit → IsFirstOf (λ k. fails is_heavy (slice_get all k)) (length all) None → IsFirstOf (λ k. fails is_high_class (slice_get all k)) (length all) None → (kind : Kind) (place : ℕ) → number kind < 33 → BeyondAt all bs kind place → ⊥
+before_charge all bs a b c d e LimitAtoms place less w = above_limit _ _ place a w
+before_charge all bs a b c d e LimitBonds place less w = above_limit _ _ place b w
+before_charge all bs a b c d e LimitRings place less w = above_limit _ _ place c w
+before_charge all bs a b c d e LimitIsotope place less w = no_atom all is_heavy place d w
+before_charge all bs a b c d e LimitClass place less w = no_atom all is_high_class place e w
+before_charge all bs a b c d e LimitCharge place less w = omega arith
+before_charge all bs a b c d e _ place less w = w
+
+pub shows_charge : (all : List SkelAtom) (bs : List bond.Bond) (n : ℕ) → length all ≤ limit → length bs ≤ limit → independent_rings bs (length all) ≤ ring_limit → IsFirstOf (λ k. fails is_heavy (slice_get all k)) (length all) None → IsFirstOf (λ k. fails is_high_class (slice_get all k)) (length all) None → IsFirstOf (λ k. fails is_overcharged (slice_get all k)) (length all) (Some n) → IsFirstFault (BeyondAt all bs) (Some (record { kind = LimitCharge; place = n + 1 }))
+shows_charge all bs n a b c d e h = record {
+  stands = (n, refl, h.1);
+  least = λ place w. first_atom all is_overcharged n place h w;
+  first = before_charge all bs a b c d e;
+  reason = (refl, refl);
+}
+
+pub shows_no_limit : (all : List SkelAtom) (bs : List bond.Bond) → length all ≤ limit → length bs ≤ limit → independent_rings bs (length all) ≤ ring_limit → IsFirstOf (λ k. fails is_heavy (slice_get all k)) (length all) None → IsFirstOf (λ k. fails is_high_class (slice_get all k)) (length all) None → IsFirstOf (λ k. fails is_overcharged (slice_get all k)) (length all) None → IsFirstFault (BeyondAt all bs) None
+shows_no_limit all bs a b c d e f LimitAtoms place w = above_limit _ _ place a w
+shows_no_limit all bs a b c d e f LimitBonds place w = above_limit _ _ place b w
+shows_no_limit all bs a b c d e f LimitRings place w = above_limit _ _ place c w
+shows_no_limit all bs a b c d e f LimitIsotope place w = no_atom all is_heavy place d w
+shows_no_limit all bs a b c d e f LimitClass place w = no_atom all is_high_class place e w
+shows_no_limit all bs a b c d e f LimitCharge place w = no_atom all is_overcharged place f w
+shows_no_limit all bs a b c d e f _ place w = w

@@ -1,0 +1,114 @@
+ghost use Rattle.std.specs.Prelude.{◌≡◌, ◌<◌, ◌≤◌, ◌^◌, ◌-◌, IfOk, IfSome, IfNone, length, slice_get};
+ghost use Rattle.mc_mol.specs.Parts.{independent_rings};
+ghost use Rattle.smi_graph.specs.Faults.{IsFirstFault};
+ghost use Rattle.smi_graph.specs.Reading.{IsFirstOf};
+ghost use Rattle.smi_graph.specs.Rules.{fails, is_heavy, is_high_class, is_overcharged, ring_limit, BeyondAt};
+ghost use Rattle.smi_graph.specs.Skeletons.{AreBonds};
+
+use crate::SkelAtom;
+use crate::fault::Fault;
+use mc_base::Kind;
+use mc_mol::{Bond, independent_rings};
+use std::alloc::{AllocError, Global};
+
+/// The greatest number of atoms and of bonds, the greatest isotope and the greatest class.
+const LIMIT: usize = 999;
+
+/// The greatest number of independent rings.
+const RING_LIMIT: u32 = 99;
+
+/// The greatest amount of a charge.
+const CHARGE_LIMIT: u8 = 15;
+
+/// The first atom whose isotope is above the limit.
+fn first_heavy(atoms: &[SkelAtom]) -> Option<usize>
+    ensures { IsFirstOf (λ k. fails is_heavy (slice_get atoms.now k)) (length atoms.now) result }
+{
+    atoms.iter().position(|atom| atom.isotope as usize > LIMIT)
+}
+
+/// The first atom whose class is above the limit.
+fn first_high_class(atoms: &[SkelAtom]) -> Option<usize>
+    ensures { IsFirstOf (λ k. fails is_high_class (slice_get atoms.now k)) (length atoms.now) result }
+{
+    atoms.iter().position(|atom| atom.class as usize > LIMIT)
+}
+
+/// The first atom whose charge is beyond the limit.
+fn first_overcharged(atoms: &[SkelAtom]) -> Option<usize>
+    ensures { IsFirstOf (λ k. fails is_overcharged (slice_get atoms.now k)) (length atoms.now) result }
+{
+    atoms
+        .iter()
+        .position(|atom| atom.charge.unsigned_abs() > CHARGE_LIMIT)
+}
+
+/// The number of independent rings where it is above the limit.
+fn rings_above(alloc: Global, atoms: &[SkelAtom], bonds: &[Bond]) -> Result<Option<u32>, AllocError>
+    requires sound { AreBonds (length atoms.now) bonds.now }
+    requires few_atoms { length atoms.now ≤ 999 }
+    requires few_bonds { length bonds.now ≤ 999 }
+    ensures above { IfOk result (λ found. IfSome found (λ rings. (rings ≡ independent_rings bonds.now (length atoms.now)) × (ring_limit < rings))) }
+    ensures few { IfOk result (λ found. IfNone found (independent_rings bonds.now (length atoms.now) ≤ ring_limit)) }
+{
+    // no more rings than bonds
+    if bonds.len() <= RING_LIMIT as usize {
+        return Ok(None);
+    }
+    let rings = independent_rings(alloc, bonds, atoms.len() as u32)?;
+    if rings > RING_LIMIT {
+        Ok(Some(rings))
+    } else {
+        Ok(None)
+    }
+}
+
+/// The first limit that these atoms and bonds exceed; its place is the number, or an atom from 1.
+pub fn limit_fault(
+    alloc: Global,
+    atoms: &[SkelAtom],
+    bonds: &[Bond],
+) -> Result<Option<Fault>, AllocError>
+    requires sound { AreBonds (length atoms.now) bonds.now }
+    requires few_atoms { length atoms.now < 2 ^ 32 - 1 }
+    requires few_bonds { length bonds.now < 2 ^ 32 - 1 }
+    ensures { IfOk result (IsFirstFault (BeyondAt atoms.now bonds.now)) }
+{
+    if atoms.len() > LIMIT {
+        return Ok(Some(Fault {
+            kind: Kind::LimitAtoms,
+            place: atoms.len() as u32,
+        }));
+    }
+    if bonds.len() > LIMIT {
+        return Ok(Some(Fault {
+            kind: Kind::LimitBonds,
+            place: bonds.len() as u32,
+        }));
+    }
+    if let Some(rings) = rings_above(alloc, atoms, bonds)? {
+        return Ok(Some(Fault {
+            kind: Kind::LimitRings,
+            place: rings,
+        }));
+    }
+    if let Some(k) = first_heavy(atoms) {
+        return Ok(Some(Fault {
+            kind: Kind::LimitIsotope,
+            place: k as u32 + 1,
+        }));
+    }
+    if let Some(k) = first_high_class(atoms) {
+        return Ok(Some(Fault {
+            kind: Kind::LimitClass,
+            place: k as u32 + 1,
+        }));
+    }
+    if let Some(k) = first_overcharged(atoms) {
+        return Ok(Some(Fault {
+            kind: Kind::LimitCharge,
+            place: k as u32 + 1,
+        }));
+    }
+    Ok(None)
+}

@@ -1,0 +1,85 @@
+-- What a text stands for is within the limits.
+use Rattle.std.proofs.Common.{arith, ◌≡◌, ◌∙◌, ℕ, zero, suc, ◌+◌, ◌-◌, ◌≤◌, ◌<◌, List, [], ◌∷◌, length, Bool, true, false, Option, Some, None, refl, sym, ap, subst}
+use Rattle.std.specs.Prelude.{slice_get, option_map, nat_abs, nat_lt, if◌then◌else◌}
+use Rattle.std.proofs.lemmas.Bool.Decides.{nat_tests}
+use Rattle.mc_base.specs.declared.kind.Kind.TheVariants.{LimitRings, LimitIsotope, LimitClass, LimitCharge}
+use Rattle.mc_elements.specs.Valences.{implied, smiles_valences}
+use Rattle.mc_mol.specs.declared.parts.Atom.{Atom}
+use Rattle.mc_mol.specs.declared.parts.Bond.{Bond}
+use Rattle.mc_mol.specs.Molecule.{Molecule, bond_sum}
+use Rattle.mc_mol.specs.Parts.{independent_rings}
+use Rattle.smi_lex.specs.Reading.{IsReading}
+use Rattle.smi_lex.specs.Tokens.{tokens, unread}
+use Rattle.smi_graph.specs.declared.skeleton.SkelAtom.{SkelAtom}
+use Rattle.smi_graph.specs.declared.skeleton.Skeleton.{Skeleton}
+use Rattle.smi_graph.specs.Rules.{atoms_in, bonds_in, fails, is_heavy, is_high_class, is_overcharged}
+use Rattle.smi_graph.specs.Skeletons.{IsSkeleton}
+use Rattle.smi_mean.specs.Meaning.{hydrogens_of, meant_atom, atoms_with, meaning_of}
+use Rattle.smi_mean.specs.Meant.{IsMeantBy}
+use Rattle.smi_mean.specs.Sound.{IsWithinLimits, IsSound}
+use Rattle.smi_mean.proofs.LowHydrogens.{implied_low, atoms_low}
+
+pub meant_at : (bonds : List Bond) (j : ℕ) (all : List SkelAtom) (k : ℕ) → slice_get (atoms_with bonds j all) k ≡ option_map (λ a. meant_atom a (bond_sum bonds (j + k))) (slice_get all k)
+meant_at bonds j [] k = refl
+meant_at bonds j (a ∷ all) zero = let e : j ≡ j + 0 = omega arith in ap (λ (n : ℕ). Some (meant_atom a (bond_sum bonds n))) e
+meant_at bonds j (a ∷ all) (suc k) =
+    let e : j + 1 + k ≡ j + suc k = omega arith in
+    meant_at bonds (j + 1) all k ∙ ap (λ (n : ℕ). option_map (λ x. meant_atom x (bond_sum bonds n)) (slice_get all k)) e
+
+pub length_atoms : (bonds : List Bond) (j : ℕ) (all : List SkelAtom) → length (atoms_with bonds j all) ≡ length all
+length_atoms bonds j [] = refl
+length_atoms bonds j (a ∷ all) = let e = length_atoms bonds (j + 1) all in omega arith
+
+was : {A B : Type 0} (f : A → B) (o : Option A) (b : B) → option_map f o ≡ Some b → (a : A) × (o ≡ Some a) × (f a ≡ b)
+was f None b h = cc
+was f (Some a) b h = (a, refl, same (f a) b h)
+  where
+    same : {B : Type 0} (x y : B) → Some x ≡ Some y → x ≡ y
+    same x y h = cc
+
+not_true : (b : Bool) → (b ≡ true → ⊥) → b ≡ false
+not_true true h = absurd (h refl)
+not_true false h = refl
+
+low : (most n : ℕ) → nat_lt most n ≡ false → n ≤ most
+low most n h = grind (arith, nat_tests)
+
+below : (count most : ℕ) → ((place : ℕ) → (place ≡ count) × (most < count) → ⊥) → count ≤ most
+below count most none = low most count (not_true (nat_lt most count) (λ t. none count (refl, above t)))
+  where
+    above : nat_lt most count ≡ true → most < count
+    above t = grind (arith, nat_tests)
+
+few_hydrogens : (a : SkelAtom) (sum : ℕ) → a.hydrogens ≤ 9 → hydrogens_of a sum ≤ 9
+few_hydrogens a sum few = by_test a.bare
+  where
+    by_test : (t : Bool) → (if t then implied (smiles_valences a.element) sum else a.hydrogens) ≤ 9
+    by_test true = implied_low a.element sum
+    by_test false = few
+
+pub sound_of : (text : List ℕ) (skeleton : Skeleton) (m : Molecule) → IsReading text 0 (tokens text) (length text - length (unread text)) → IsSkeleton text skeleton → IsMeantBy skeleton m → IsSound m
+sound_of text skeleton m reading s h =
+    let is : m ≡ meaning_of (atoms_in text) (bonds_in text) =
+    h.molecule ∙ (ap (λ (x : List SkelAtom). meaning_of x skeleton.bonds.items) s.atoms ∙ ap (λ (x : List Bond). meaning_of (atoms_in text) x) s.bonds) in
+    let rings : independent_rings (bonds_in text) (length (atoms_in text)) ≤ 99 = below (independent_rings (bonds_in text) (length (atoms_in text))) 99 (λ place w. s.accepted LimitRings place w) in
+    let len : length (atoms_with (bonds_in text) 0 (atoms_in text)) ≡ length (atoms_in text) = length_atoms (bonds_in text) 0 (atoms_in text) in
+    record {
+      atoms = λ k atom at. by_atom k atom (was (λ a. meant_atom a (bond_sum (bonds_in text) (0 + k))) (slice_get (atoms_in text) k) atom
+          (sym (meant_at (bonds_in text) 0 (atoms_in text) k) ∙ (sym (ap (λ (x : Molecule). slice_get x.atoms k) is) ∙ at)));
+      rings = subst (λ (x : Molecule). independent_rings x.bonds (length x.atoms) ≤ 99) (sym is) (subst (λ (n : ℕ). independent_rings (bonds_in text) n ≤ 99) (sym len) rings);
+      valences = h.valences;
+      hydrogens = h.hydrogens;
+      no_centres = rw is refl;
+      no_sides = rw is refl;
+    }
+  where
+    fine : (k : ℕ) (a : SkelAtom) (p : SkelAtom → Bool) → slice_get (atoms_in text) k ≡ Some a → (fails p (slice_get (atoms_in text) k) ≡ true → ⊥) → p a ≡ false
+    fine k a p at none = sym (ap (fails p) at) ∙ not_true (fails p (slice_get (atoms_in text) k)) none
+
+    by_atom : (k : ℕ) (atom : Atom) → (a : SkelAtom) × (slice_get (atoms_in text) k ≡ Some a) × (meant_atom a (bond_sum (bonds_in text) (0 + k)) ≡ atom) → IsWithinLimits atom
+    by_atom k atom (a, at, made) = subst IsWithinLimits made (record {
+      isotope = low 999 a.isotope (fine k a is_heavy at (λ holds. s.accepted LimitIsotope (k + 1) (k, refl, holds)));
+      class = low 999 a.class (fine k a is_high_class at (λ holds. s.accepted LimitClass (k + 1) (k, refl, holds)));
+      charge = low 15 (nat_abs a.charge) (fine k a is_overcharged at (λ holds. s.accepted LimitCharge (k + 1) (k, refl, holds)));
+      hydrogens = few_hydrogens a _ (atoms_low text reading k a at);
+    })

@@ -1,0 +1,96 @@
+-- The order of the bond between two atoms, by the half-edges of one of them; bond sums by one bond more.
+use Rattle.std.proofs.Common.{◌≡◌, ◌≢◌, ℕ, zero, suc, ◌+◌, ◌≤◌, ◌<◌, List, [], ◌∷◌, length, take, drop, get_or, slice_get, Bool, true, false, Some, refl, ap, sym, ◌∙◌, subst, inl, inr, arith}
+use Rattle.std.specs.Prelude.{◌==◌, ◌&&◌, ◌||◌, if◌then◌else◌, sum_by, AllPairs}
+use Rattle.std.specs.List.{list_any}
+use Rattle.std.proofs.lemmas.Bool.{false≢true}
+use Rattle.std.proofs.lemmas.List.{take_more, drop_all}
+use Rattle.std.proofs.lemmas.List.Sums.{sum_by-append}
+use Rattle.std.proofs.lemmas.Option.{slice_get-get_or, slice_get_within, get_or_from_slice_get}
+use Rattle.mc_base.specs.declared.ids.AtomId.{AtomId}
+use Rattle.mc_mol.specs.declared.parts.Bond.{Bond}
+use Rattle.mc_mol.specs.declared.parts.HalfEdge.{HalfEdge}
+use Rattle.mc_mol.specs.Molecule.{Molecule, joins, touches, are_joined, bond_sum}
+use Rattle.mc_mol.specs.WellFormed.{IsMolecule}
+use Rattle.mc_mol.specs.HalfEdges.{half_edges, AllHaveTwins}
+use Rattle.mc_mol.proofs.Halves.{are_joined-half_edges}
+use Rattle.smi_mean.specs.Order.{order_between}
+use Rattle.smi_write.proofs.Least.{or_true, and_true, or_false, same_of, some_same}
+
+-- bonds that join the same two atoms join each other's ends
+joins_again : (b c : Bond) (u v : ℕ) → joins b u v ≡ true → joins c u v ≡ true → joins b c.first.0 c.second.0 ≡ true
+joins_again b c u v e f = elim (or_true (c.first.0 == u && c.second.0 == v) (c.first.0 == v && c.second.0 == u) f) [
+  | inl one ↦ let t = and_true (c.first.0 == u) (c.second.0 == v) one in
+      rw (same_of c.first.0 u t.0, same_of c.second.0 v t.1) e
+  | inr two ↦ let t = and_true (c.first.0 == v) (c.second.0 == u) two in
+      rw (same_of c.first.0 v t.0, same_of c.second.0 u t.1) (swapped (b.first.0 == u && b.second.0 == v) (b.first.0 == v && b.second.0 == u) e)
+]
+  where
+    swapped : (p q : Bool) → (p || q) ≡ true → (q || p) ≡ true
+    swapped true true h = refl
+    swapped true false h = refl
+    swapped false true h = refl
+    swapped false false h = h
+
+abbrev pub Once : List Bond → Type 0
+Once bonds = AllPairs (λ (b c : Bond). joins b c.first.0 c.second.0 ≡ false) bonds
+
+pub order_found : (bonds : List Bond) (i : ℕ) (b : Bond) (u v : ℕ) → Once bonds → slice_get bonds i ≡ Some b → joins b u v ≡ true → order_between bonds u v ≡ b.order
+order_found [] i b u v once at j = cc
+order_found (h ∷ bonds) zero b u v once at j =
+    let same : h ≡ b = some_same h b at in
+    let t : joins h u v ≡ true = ap (λ (x : Bond). joins x u v) same ∙ j in
+    rw t (ap (λ (x : Bond). x.order) same)
+order_found (h ∷ bonds) (suc i) b u v once at j =
+    by_test (joins h u v) refl (order_found bonds i b u v (λ k l d less below. once (suc k) (suc l) d (omega arith) (omega arith)) at j)
+  where
+    by_test : (t : Bool) → joins h u v ≡ t → order_between bonds u v ≡ b.order → (if t then h.order else order_between bonds u v) ≡ b.order
+    by_test false e more = more
+    by_test true e more =
+        let within = slice_get_within bonds i b at in
+        let is_b : get_or bonds i h ≡ b = get_or_from_slice_get bonds i b h at in
+        let apart : joins h (get_or bonds i h).first.0 (get_or bonds i h).second.0 ≡ false = once 0 (suc i) h (omega arith) (omega arith) in
+        let apart' = subst (λ (x : Bond). joins h x.first.0 x.second.0 ≡ false) is_b apart in
+        absurd (false≢true (sym apart' ∙ joins_again h b u v e j))
+
+pub order_none : (bonds : List Bond) (u v : ℕ) → are_joined bonds u v ≡ false → order_between bonds u v ≡ 1
+order_none [] u v h = refl
+order_none (b ∷ bonds) u v h = let r = or_false (joins b u v) (are_joined bonds u v) h in rw r.0 (order_none bonds u v r.1)
+
+-- a half-edge tells the order
+pub half_order : (m : Molecule) (a : AtomId) (place v : ℕ) (half : HalfEdge) (bond : Bond) → IsMolecule m → AllHaveTwins m a → slice_get (half_edges m a.0) place ≡ Some half → half.to.0 ≡ v
+    → slice_get m.bonds half.bond.0 ≡ Some bond → bond.order ≡ order_between m.bonds a.0 v
+half_order m a place v half bond is twins at to at_bond =
+    let t = twins place half at in
+    let same : t.bond ≡ bond = some_same t.bond bond (sym t.is_bond ∙ at_bond) in
+    let j : joins bond a.0 v ≡ true = subst (λ (x : Bond). joins x a.0 v ≡ true) same (subst (λ (x : ℕ). joins t.bond a.0 x ≡ true) to t.joined) in
+    sym (order_found m.bonds half.bond.0 bond a.0 v is.once at_bond j)
+
+pub no_half_order : (m : Molecule) (u v : ℕ) → u ≢ v → false ≡ list_any (λ (half : HalfEdge). half.to.0 == v) (half_edges m u) → 1 ≡ order_between m.bonds u v
+no_half_order m u v ne none = sym (order_none m.bonds u v (sym (are_joined-half_edges m u v ne) ∙ sym none))
+
+-- Bond sums
+
+one_bond : (f : Bond → ℕ) (b : Bond) → sum_by f (b ∷ []) ≡ f b
+one_bond f b = omega arith
+
+pub sum_more : (bonds : List Bond) (i u : ℕ) (bond : Bond) → slice_get bonds i ≡ Some bond → bond_sum (take (i + 1) bonds) u ≡ bond_sum (take i bonds) u + (if touches bond u then bond.order else 0)
+sum_more bonds i u bond at =
+    let f : Bond → ℕ = λ b. if touches b u then b.order else 0 in
+    ap (λ (x : List Bond). bond_sum x u) (take_more bonds i bond (slice_get_within bonds i bond at))
+    ∙ sum_by-append (λ (b : Bond). if touches b u then b.order else 0) (take i bonds) (get_or bonds i bond ∷ [])
+    ∙ ap (λ (x : Bond). bond_sum (take i bonds) u + sum_by (λ (b : Bond). if touches b u then b.order else 0) (x ∷ [])) (get_or_from_slice_get bonds i bond bond at)
+    ∙ ap (λ (n : ℕ). bond_sum (take i bonds) u + n) (one_bond (λ (b : Bond). if touches b u then b.order else 0) bond)
+
+pub if_at_most : (t : Bool) (n most : ℕ) → n ≤ most → (if t then n else 0) ≤ most
+if_at_most true n most le = le
+if_at_most false n most le = omega arith
+
+-- the half-edge at a place of a list that is an atom's
+pub half_at : (halves list : List HalfEdge) (k : ℕ) (d : HalfEdge) → halves ≡ list → k < length halves → slice_get list k ≡ Some (get_or halves k d)
+half_at halves list k d e less = subst (λ (x : List HalfEdge). slice_get x k ≡ Some (get_or halves k d)) e (slice_get-get_or halves k d less)
+
+-- nothing is found up to the end
+pub none_found : (p : HalfEdge → Bool) (halves list : List HalfEdge) (k : ℕ) → halves ≡ list → length halves ≤ k → list_any p (drop k list) ≡ list_any p list → false ≡ list_any p list
+none_found p halves list k e past same =
+    let past' : length list ≤ k = subst (λ (x : List HalfEdge). length x ≤ k) e past in
+    ap (list_any p) (sym (drop_all k list past')) ∙ same

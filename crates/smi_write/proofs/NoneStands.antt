@@ -1,0 +1,116 @@
+-- No kind stands in a text that is read as a molecule within the limits.
+use Rattle.std.proofs.Common.{arith, ◌≡◌, ◌<◌, ◌≤◌, ◌+◌, ℕ, zero, suc, Bool, true, false, List, [], ◌∷◌, length, Option, Some, None, refl, sym, ap, ◌∙◌, inl, inr}
+use Rattle.std.specs.Prelude.{slice_get, nat_abs, nat_lt}
+use Rattle.std.proofs.lemmas.Bool.{cases_lt, false≢true}
+use Rattle.std.proofs.lemmas.Bool.Decides.{nat_tests}
+use Rattle.std.proofs.lemmas.Option.{slice_get_past, slice_get_within}
+use Rattle.mc_base.specs.declared.kind.Kind.{Kind}
+use Rattle.mc_base.specs.declared.kind.Kind.TheVariants.{NotBuilt, BadToken, Wildcard, OtherChirality, BadOrder, ParenOpen, RingOpen, RingClash, RingPair, LimitAtoms, LimitBonds, LimitRings, LimitIsotope, LimitClass, LimitCharge, LimitValence, HydrogenOnHydrogen}
+use Rattle.mc_mol.specs.declared.parts.Atom.{Atom}
+use Rattle.mc_mol.specs.declared.parts.Bond as bond
+use Rattle.mc_mol.specs.Molecule.{Molecule, bond_sum}
+use Rattle.mc_mol.specs.WellFormed.{IsMolecule}
+use Rattle.smi_lex.specs.Tokens.{unread}
+use Rattle.smi_graph.specs.declared.skeleton.SkelAtom.{SkelAtom}
+use Rattle.smi_graph.specs.Order.{unclosed_at}
+use Rattle.smi_graph.specs.RingRules.{clash_at, pair_again_at}
+use Rattle.smi_graph.specs.Rules.{atoms_in, bonds_in, roles_in, fails, is_heavy, is_high_class, is_overcharged}
+use Rattle.smi_graph.proofs.TokenFaults.{unclosed_past, clash_past, pair_past}
+use Rattle.smi_mean.specs.Meaning.{atoms_with, meaning, meant_atom}
+use Rattle.smi_mean.specs.Order.{graph_of}
+use Rattle.smi_mean.specs.Rules.{StandsAt, hydrogen_on_hydrogen_at, is_hydrogen_with_more, is_over, overvalent_at}
+use Rattle.smi_mean.specs.Sound.{IsSound, IsWithinLimits}
+use Rattle.smi_mean.specs.Written.{at}
+use Rattle.smi_write.proofs.Structured.{IsRead, length_with}
+
+not_both : (b : Bool) → b ≡ false → b ≡ true → ⊥
+not_both b fails holds = false≢true (sym fails ∙ holds)
+
+not_above : (n k : ℕ) → n ≤ k → nat_lt k n ≡ false
+not_above n k few = grind (arith, nat_tests)
+
+-- an atom of the skeleton, and the one that it means
+atom_with : (bonds : List bond.Bond) (j : ℕ) (atoms : List SkelAtom) (k : ℕ) (atom : SkelAtom) → slice_get atoms k ≡ Some atom
+    → (sum : ℕ) × (slice_get (atoms_with bonds j atoms) k ≡ Some (meant_atom atom sum))
+atom_with bonds j [] k atom is = cc
+atom_with bonds j (a ∷ atoms) zero atom is = (bond_sum bonds j, ap (λ (x : SkelAtom). Some (meant_atom x (bond_sum bonds j))) (same a atom is))
+  where
+    same : (a b : SkelAtom) → Some a ≡ Some b → a ≡ b
+    same a b h = cc
+atom_with bonds j (a ∷ atoms) (suc k) atom is = atom_with bonds (j + 1) atoms k atom is
+
+-- each atom of the skeleton is within the limits
+within : (m : Molecule) (text : List ℕ) → IsSound m → IsRead m text → (k : ℕ) (atom : SkelAtom) → slice_get (atoms_in text) k ≡ Some atom
+    → (sum : ℕ) × IsWithinLimits (meant_atom atom sum)
+within m text sound read k atom is =
+    let inside = slice_get_within (atoms_in text) k atom is in
+    let count = read.count in
+    let meant = atom_with (bonds_in text) 0 (atoms_in text) k atom is in
+    (meant.0, sound.atoms (at (graph_of m) k) (meant_atom atom meant.0) (sym (read.same_atoms k (omega arith)) ∙ meant.1))
+
+no_atom_fails : (m : Molecule) (text : List ℕ) → IsSound m → IsRead m text → (p : SkelAtom → Bool)
+    → ((atom : SkelAtom) (sum : ℕ) → IsWithinLimits (meant_atom atom sum) → p atom ≡ false) → (k : ℕ) → fails p (slice_get (atoms_in text) k) ≡ false
+no_atom_fails m text sound read p passes k = by_atom (slice_get (atoms_in text) k) refl
+  where
+    by_atom : (o : Option SkelAtom) → slice_get (atoms_in text) k ≡ o → fails p o ≡ false
+    by_atom None is = refl
+    by_atom (Some atom) is = let limits = within m text sound read k atom is in passes atom limits.0 limits.1
+
+-- an atom of the text has the valence and the hydrogens of its atom of the molecule
+
+none_past : (m : Molecule) (text : List ℕ) → IsRead m text → (k : ℕ) → length m.atoms ≤ k → slice_get (meaning text).atoms k ≡ None
+none_past m text read k past =
+    let count = read.count in
+    let size : length (atoms_with (bonds_in text) 0 (atoms_in text)) ≡ length (atoms_in text) = length_with (bonds_in text) 0 (atoms_in text) in
+    slice_get_past (atoms_with (bonds_in text) 0 (atoms_in text)) k (omega arith)
+
+no_valence : (m : Molecule) (text : List ℕ) → IsSound m → IsRead m text → (k : ℕ) → overvalent_at (meaning text) k ≡ false
+no_valence m text sound read k = elim (cases_lt k (length m.atoms)) [
+  | inl less ↦
+      ap (λ (o : Option Atom). is_over o (bond_sum (bonds_in text) k)) (read.same_atoms k less)
+      ∙ ap (is_over (slice_get m.atoms (at (graph_of m) k))) (read.reads.sums k less)
+      ∙ sound.valences (at (graph_of m) k)
+  | inr past ↦ ap (λ (o : Option Atom). is_over o (bond_sum (bonds_in text) k)) (none_past m text read k (omega arith))
+]
+
+no_hydrogen : (m : Molecule) (text : List ℕ) → IsSound m → IsRead m text → (k : ℕ) → hydrogen_on_hydrogen_at (meaning text) k ≡ false
+no_hydrogen m text sound read k = elim (cases_lt k (length m.atoms)) [
+  | inl less ↦ ap is_hydrogen_with_more (read.same_atoms k less) ∙ sound.hydrogens (at (graph_of m) k)
+  | inr past ↦ ap is_hydrogen_with_more (none_past m text read k (omega arith))
+]
+
+no_rest : (m : Molecule) (text : List ℕ) → IsRead m text → 0 < length (unread text) → ⊥
+no_rest m text read some = let none = ap (λ (t : List ℕ). length t) read.nothing_left in omega arith
+
+above_limit : (n k most : ℕ) → n ≡ k → k ≤ most → most < n → ⊥
+above_limit n k most same few more = omega arith
+
+-- a test that fails at each token and behind them
+nowhere : (p : ℕ → Bool) (n i : ℕ) → ((i : ℕ) → n ≤ i → p i ≡ false) → ((i : ℕ) → i ≤ n → p i ≡ false) → p i ≡ true → ⊥
+nowhere p n i past fails holds = elim (cases_lt i n) [
+  | inl less ↦ not_both (p i) (fails i (omega arith)) holds
+  | inr more ↦ not_both (p i) (past i (omega arith)) holds
+]
+
+pub none_stands : (m : Molecule) (text : List ℕ) → IsMolecule m → IsSound m → IsRead m text → (kind : Kind) (place : ℕ) → StandsAt text kind place → ⊥
+none_stands m text is sound read NotBuilt place h = not_both _ h.2 read.built
+none_stands m text is sound read BadToken place h = no_rest m text read h.0
+none_stands m text is sound read Wildcard place h = no_rest m text read h.0
+none_stands m text is sound read OtherChirality place h = no_rest m text read h.0
+none_stands m text is sound read BadOrder place (i, (inside, bad), there) = not_both _ (read.reads.placed i inside) bad
+none_stands m text is sound read ParenOpen place (i, bad, there) = nowhere (unclosed_at (roles_in text)) (length (roles_in text)) i (unclosed_past (roles_in text)) read.reads.closed bad
+none_stands m text is sound read RingOpen place (i, (n, other, stays, there), at) = let shut = read.reads.rings n in cc
+none_stands m text is sound read RingClash place (i, bad, there) = nowhere (clash_at (roles_in text)) (length (roles_in text)) i (clash_past (roles_in text)) read.reads.clashes bad
+none_stands m text is sound read RingPair place (i, bad, there) = nowhere (pair_again_at (roles_in text)) (length (roles_in text)) i (pair_past (roles_in text)) read.reads.pairs bad
+none_stands m text is sound read LimitAtoms place h = above_limit (length (atoms_in text)) (length m.atoms) 999 read.count is.few_atoms h.1
+none_stands m text is sound read LimitBonds place h = above_limit (length (bonds_in text)) (length m.bonds) 999 read.reads.count is.few_bonds h.1
+none_stands m text is sound read LimitRings place h = above_limit _ _ 99 refl read.few_rings h.1
+none_stands m text is sound read LimitIsotope place (k, there, bad) =
+    not_both _ (no_atom_fails m text sound read is_heavy (λ atom sum limits. not_above atom.isotope 999 limits.isotope) k) bad
+none_stands m text is sound read LimitClass place (k, there, bad) =
+    not_both _ (no_atom_fails m text sound read is_high_class (λ atom sum limits. not_above atom.class 999 limits.class) k) bad
+none_stands m text is sound read LimitCharge place (k, there, bad) =
+    not_both _ (no_atom_fails m text sound read is_overcharged (λ atom sum limits. not_above (nat_abs atom.charge) 15 limits.charge) k) bad
+none_stands m text is sound read LimitValence place (k, there, bad) = not_both _ (no_valence m text sound read k) bad
+none_stands m text is sound read HydrogenOnHydrogen place (k, there, bad) = not_both _ (no_hydrogen m text sound read k) bad
+none_stands m text is sound read _ place h = h

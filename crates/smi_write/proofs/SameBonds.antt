@@ -1,0 +1,78 @@
+-- Each bond that is read is a bond of the molecule, with its order.
+use Rattle.std.proofs.Common.{◌≡◌, ℕ, zero, suc, ◌+◌, ◌<◌, List, [], ◌∷◌, length, Bool, true, false, Some, refl, ap, sym, ◌∙◌, subst, inl, inr, arith}
+use Rattle.std.specs.Prelude.{◌||◌, ◌&&◌, ◌==◌, slice_get, if◌then◌else◌}
+use Rattle.std.proofs.lemmas.Bool.{cases_lt, false≢true}
+use Rattle.mc_mol.specs.declared.parts.Bond.{Bond}
+use Rattle.mc_mol.specs.Molecule.{Molecule, joins, are_joined}
+use Rattle.mc_mol.specs.WellFormed.{IsMolecule}
+use Rattle.mc_mol.specs.Same.{HasBond}
+use Rattle.smi_graph.specs.Bonds.{bonds_of}
+use Rattle.smi_mean.specs.Order.{Graph, order_between, graph_of}
+use Rattle.smi_mean.specs.RingNumbers.{onto_all}
+use Rattle.smi_mean.specs.Written.{at, bond_order}
+use Rattle.smi_write.proofs.Least.{test_same, some_same}
+use Rattle.smi_write.proofs.Hits.{bit}
+use Rattle.smi_write.proofs.BondCounts.{hit, bond_count}
+use Rattle.smi_write.proofs.Orders.{Ordered}
+use Rattle.smi_write.proofs.Whole.{graph_roles, is_read}
+use Rattle.smi_write.proofs.BondSums.{read_orders}
+
+counted : (b : Bond) (k : ℕ) (xs : List Bond) → slice_get xs k ≡ Some b → 0 < bond_count b.first.0 b.second.0 xs
+counted b k [] h = cc
+counted b zero (x ∷ xs) h =
+    let e : x ≡ b = some_same x b h in
+    let own : hit b.first.0 b.second.0 b ≡ 1 = rw (test_same b.first.0, test_same b.second.0) refl in
+    let here : hit b.first.0 b.second.0 x ≡ 1 = ap (hit b.first.0 b.second.0) e ∙ own in omega arith
+counted b (suc k) (x ∷ xs) h = let r = counted b k xs h in omega arith
+
+ordered_at : (v : ℕ → ℕ → ℕ) (b : Bond) (k : ℕ) (xs : List Bond) → Ordered v xs → slice_get xs k ≡ Some b → b.order ≡ v b.first.0 b.second.0
+ordered_at v b k [] o h = cc
+ordered_at v b zero (x ∷ xs) o h = subst (λ (y : Bond). y.order ≡ v y.first.0 y.second.0) (some_same x b h) o.0
+ordered_at v b (suc k) (x ∷ xs) o h = ordered_at v b k xs o.1 h
+
+found : (bs : List Bond) (u v : ℕ) → are_joined bs u v ≡ true → HasBond bs u v (order_between bs u v)
+found [] u v h = absurd (false≢true h)
+found (b ∷ bs) u v h = by_test (joins b u v) refl h (λ t. found bs u v t)
+  where
+    by_test : (t : Bool) → joins b u v ≡ t → (t || are_joined bs u v) ≡ true → (are_joined bs u v ≡ true → HasBond bs u v (order_between bs u v))
+        → HasBond (b ∷ bs) u v (if t then b.order else order_between bs u v)
+    by_test true e h more = (b, (0, omega arith, refl), e, refl)
+    by_test false e h more = let (c, there, joined, order) = more h in let (k, below, is) = there in (c, (suc k, omega arith, is), joined, order)
+
+bit_one : (b : Bool) → 0 < bit b → b ≡ true
+bit_one true h = refl
+bit_one false h = absurd (omega arith)
+
+pub same_bonds : (m : Molecule) (k : ℕ) (b : Bond) → IsMolecule m → slice_get (bonds_of (onto_all (graph_roles (graph_of m)) [])) k ≡ Some b
+    → HasBond m.bonds (at (graph_of m) b.first.0) (at (graph_of m) b.second.0) b.order
+same_bonds m k b is h =
+    let g : Graph = graph_of m in
+    let read = is_read g in
+    let some = counted b k (bonds_of (onto_all (graph_roles g) [])) h in
+    let order : b.order ≡ order_between m.bonds (at g b.first.0) (at g b.second.0) = ordered_at (λ j l. bond_order g j l) b k (bonds_of (onto_all (graph_roles g) [])) (read_orders m is) h in
+    subst (λ (o : ℕ). HasBond m.bonds (at g b.first.0) (at g b.second.0) o) (sym order) (found m.bonds (at g b.first.0) (at g b.second.0) (
+    elim (cases_lt b.first.0 b.second.0) [
+      | inl less ↦ elim (cases_lt b.second.0 g.count) [
+        | inl below ↦ let c = read.bonds b.first.0 b.second.0 less below in bit_one (are_joined m.bonds (at g b.first.0) (at g b.second.0)) (omega arith)
+        | inr above ↦ let z = read.others b.first.0 b.second.0 (inr above) in absurd (omega arith)
+      ]
+      | inr more ↦ let z = read.others b.first.0 b.second.0 (inl more) in absurd (omega arith)
+    ]))
+
+joined_of : (j l : ℕ) (bs : List Bond) → 0 < bond_count j l bs → are_joined bs j l ≡ true
+joined_of j l [] h = absurd (omega arith)
+joined_of j l (b ∷ bs) h = by_test (b.first.0 == j && b.second.0 == l) (b.first.0 == l && b.second.0 == j) h (λ some. joined_of j l bs some)
+  where
+    by_test : (t u : Bool) → 0 < bit t + bond_count j l bs → (0 < bond_count j l bs → are_joined bs j l ≡ true) → ((t || u) || are_joined bs j l) ≡ true
+    by_test true u h more = refl
+    by_test false true h more = refl
+    by_test false false h more = more (omega arith)
+
+-- atoms that are joined are read as joined
+pub read_joined : (m : Molecule) (j l : ℕ) → j < l → l < length m.atoms → are_joined m.bonds (at (graph_of m) j) (at (graph_of m) l) ≡ true
+    → are_joined (bonds_of (onto_all (graph_roles (graph_of m)) [])) j l ≡ true
+read_joined m j l less below h =
+    let g : Graph = graph_of m in
+    let read = is_read g in
+    let c : bond_count j l (bonds_of (onto_all (graph_roles g) [])) ≡ 1 = read.bonds j l less below ∙ ap bit h in
+    joined_of j l (bonds_of (onto_all (graph_roles g) [])) (omega arith)

@@ -1,0 +1,150 @@
+-- What is known of a written text once its tokens are read as the structure of its molecule.
+use Rattle.std.proofs.Common.{arith, ◌≡◌, ◌<◌, ◌≤◌, ◌+◌, ◌-◌, ℕ, zero, suc, true, false, List, [], ◌∷◌, length, map, reverse, Option, Some, None, refl, sym, ap, subst, ◌∙◌}
+use Rattle.std.specs.Prelude.{slice_get}
+use Rattle.std.specs.List.{list_all}
+use Rattle.std.proofs.lemmas.List.Folds.{list_all-map}
+use Rattle.mc_mol.specs.declared.parts.Atom.{Atom}
+use Rattle.mc_mol.specs.declared.parts.Bond as bond
+use Rattle.mc_mol.specs.Molecule.{Molecule, bond_sum}
+use Rattle.mc_mol.specs.Parts.{independent_rings, part_count}
+use Rattle.smi_lex.specs.declared.token.Token.{Token}
+use Rattle.smi_lex.specs.declared.token.TokenKind.{TokenKind}
+use Rattle.smi_lex.specs.declared.token.TokenKind.TheVariants.{Bare, Bracket, Bond, Ring, Enter, Leave, Dot}
+use Rattle.smi_lex.specs.Tokens.{tokens, unread}
+use Rattle.smi_lex.proofs.Reading.{reads_from}
+use Rattle.smi_graph.specs.declared.role.Role.{Role}
+use Rattle.smi_graph.specs.declared.role.Role.TheVariants as doing
+use Rattle.smi_graph.specs.declared.skeleton.SkelAtom.{SkelAtom}
+use Rattle.smi_graph.specs.Bonds.{bonds_of}
+use Rattle.smi_graph.specs.Roles.{role_of, roles}
+use Rattle.smi_graph.specs.Rules.{atoms_in, bonds_in, is_built, is_built_kind, roles_in}
+use Rattle.smi_mean.specs.Meaning.{atoms_with, meaning}
+use Rattle.smi_mean.specs.Order.{Graph, graph_of, order, atoms, parents}
+use Rattle.smi_mean.specs.Sound.{IsSound}
+use Rattle.smi_mean.specs.Written.{at, atom_token, bond_order, graph_tokens, has_ring, token_in, written_text, written_tokens}
+use Rattle.smi_write.specs.Structure.{ReadsAs, IsOrder}
+use Rattle.smi_write.proofs.Walk.{length_parents}
+use Rattle.smi_write.proofs.Once.{length_atoms}
+use Rattle.smi_write.proofs.TokenSpelled.{IsWritten}
+use Rattle.smi_write.proofs.KindsRead.{AreWritten, kinds_read, unread_none}
+use Rattle.smi_write.proofs.TokensWritten.{RingsFit, role_of_atom, tokens_written}
+use Rattle.smi_write.proofs.AtomsRead.{atom_tokens, atoms_meant, atoms_of_text, length_meant, meant_at, meant_atoms, meant_by, token_means}
+
+-- the structure of the tokens that are written for a molecule
+pub record Structured (m : Molecule) : Type 0 where
+  pub reads : ReadsAs m (map role_of (written_tokens m))
+  pub order : IsOrder m (atoms (order (graph_of m)))
+  pub numbers : RingsFit (written_tokens m)
+  pub rings : independent_rings (bonds_of (reverse (map role_of (written_tokens m)))) (length m.atoms) ≤ 99
+
+no_more_rings : (bonds parts more atoms : ℕ) → parts ≤ more → (bonds + more) - atoms ≤ 99 → (bonds + parts) - atoms ≤ 99
+no_more_rings bonds parts more atoms fewer few = omega arith
+
+-- The structure that is read for any tokens of the atoms, the order, the ring numbers, and no more connected parts than the
+-- molecule has.
+pub structured : (m : Molecule) → IsSound m
+    → ((token : ℕ → TokenKind) → ((u : ℕ) → role_of (token u) ≡ doing.Atom) → ReadsAs m (map role_of (graph_tokens (graph_of m) token)))
+    → IsOrder m (atoms (order (graph_of m))) → RingsFit (written_tokens m)
+    → part_count (bonds_of (reverse (map role_of (written_tokens m)))) (length m.atoms) ≤ part_count m.bonds (length m.atoms)
+    → Structured m
+structured m sound reads_as ordered fit fewer =
+    let reads : ReadsAs m (map role_of (written_tokens m)) = reads_as (atom_token m) (role_of_atom m) in
+    let bonds : List bond.Bond = bonds_of (reverse (map role_of (written_tokens m))) in
+    record {
+      reads = reads;
+      order = ordered;
+      numbers = fit;
+      rings = subst (λ (n : ℕ). (n + part_count bonds (length m.atoms)) - length m.atoms ≤ 99) (sym reads.count)
+          (no_more_rings (length m.bonds) (part_count bonds (length m.atoms)) (part_count m.bonds (length m.atoms)) (length m.atoms) fewer sound.rings);
+    }
+
+-- what the text of a molecule is read as
+pub record IsRead (m : Molecule) (text : List ℕ) : Type 0 where
+  pub nothing_left : unread text ≡ []
+  pub built : is_built text ≡ true
+  pub reads : ReadsAs m (roles_in text)
+  pub count : length (atoms_in text) ≡ length m.atoms
+  pub same_atoms : (k : ℕ) → k < length m.atoms → slice_get (meaning text).atoms k ≡ slice_get m.atoms (at (graph_of m) k)
+  pub few_rings : independent_rings (bonds_in text) (length (atoms_in text)) ≤ 99
+
+-- every token is one that is read today
+
+one_built : (kind : TokenKind) → IsWritten kind → is_built_kind kind ≡ true
+one_built (Bare element true) is = cc
+one_built (Bare element false) is = refl
+one_built (Bracket element true isotope chiral hydrogens charge class) is = let upper = is.upper in cc
+one_built (Bracket element false isotope (Some turn) hydrogens charge class) is = let plain = is.plain in cc
+one_built (Bracket element false isotope None hydrogens charge class) is = refl
+one_built (Bond mark) is = is
+one_built (Ring number) is = refl
+one_built Enter is = refl
+one_built Leave is = refl
+one_built Dot is = refl
+
+all_built : (ks : List TokenKind) → AreWritten ks → list_all is_built_kind ks ≡ true
+all_built [] are = refl
+all_built (k ∷ ks) are = rw (one_built k are.0, all_built ks are.1) refl
+
+-- the roles of tokens are those of their kinds
+roles_by_kind : (ts : List Token) → roles ts ≡ map role_of (map (λ token. token.kind) ts)
+roles_by_kind [] = refl
+roles_by_kind (t ∷ ts) = ap (λ (rs : List Role). role_of t.kind ∷ rs) (roles_by_kind ts)
+
+pub length_with : (bonds : List bond.Bond) (k : ℕ) (atoms : List SkelAtom) → length (atoms_with bonds k atoms) ≡ length atoms
+length_with bonds k [] = refl
+length_with bonds k (atom ∷ atoms) = ap suc (length_with bonds (k + 1) atoms)
+
+-- the tokens of the molecule's atoms, as they stand
+atoms_written : (m : Molecule) → atom_tokens (written_tokens m) ≡ map (atom_token m) (atoms (order (graph_of m)))
+atoms_written m =
+    let g : Graph = graph_of m in
+    atoms_of_text (λ j l. bond_order g j l) (λ j l. has_ring g j l) g.count 0 (atom_token m) (atoms (order g)) (parents (order g))
+    (role_of_atom m) (length_atoms (order g) ∙ sym (length_parents (order g)))
+
+-- an atom's token means the atom
+token_at : (m : Molecule) (u : ℕ) → u < length m.atoms → ◌≡◌ {A = Option Atom} (Some (meant_by (atom_token m u) (bond_sum m.bonds u))) (slice_get m.atoms u)
+token_at m u inside = found (slice_get m.atoms u) (there m.atoms u inside)
+  where
+    there : (atoms : List Atom) (k : ℕ) → k < length atoms → slice_get atoms k ≡ None → ⊥
+    there [] k less none = omega arith
+    there (atom ∷ atoms) zero less none = cc
+    there (atom ∷ atoms) (suc k) less none = there atoms k (omega arith) none
+
+    found : (o : Option Atom) → (o ≡ None → ⊥) → ◌≡◌ {A = Option Atom} (Some (meant_by (token_in o (bond_sum m.bonds u)) (bond_sum m.bonds u))) o
+    found None some = absurd (some refl)
+    found (Some atom) some = ap Some (token_means atom (bond_sum m.bonds u))
+
+read_as : (m : Molecule) (text : List ℕ) → Structured m → AreWritten (written_tokens m) → unread text ≡ []
+    → map (λ token. token.kind) (tokens text) ≡ written_tokens m → IsRead m text
+read_as m text structured are left same =
+    let g : Graph = graph_of m in
+    let us : List ℕ = atoms (order g) in
+    let bonds : List bond.Bond = bonds_in text in
+    let same_roles : roles_in text ≡ map role_of (written_tokens m) = roles_by_kind (tokens text) ∙ ap (map role_of) same in
+    let reads : ReadsAs m (roles_in text) = subst (λ (rs : List Role). ReadsAs m rs) (sym same_roles) structured.reads in
+    let meant : atoms_with bonds 0 (atoms_in text) ≡ meant_atoms bonds 0 (map (atom_token m) us) =
+    atoms_meant bonds 0 (tokens text) ∙ ap (λ (ks : List TokenKind). meant_atoms bonds 0 (atom_tokens ks)) same
+    ∙ ap (meant_atoms bonds 0) (atoms_written m) in
+    let whole : length us ≡ length m.atoms = structured.order.whole in
+    let count : length (atoms_in text) ≡ length m.atoms =
+    sym (length_with bonds 0 (atoms_in text)) ∙ ap (λ (xs : List Atom). length xs) meant ∙ length_meant bonds 0 (atom_token m) us ∙ whole in
+    record {
+      nothing_left = left;
+      built = sym (list_all-map is_built_kind (λ token. token.kind) (tokens text)) ∙ ap (list_all is_built_kind) same ∙ all_built (written_tokens m) are;
+      reads = reads;
+      count = count;
+      same_atoms = λ k less.
+          let from_none : 0 + k ≡ k = omega arith in
+          ap (λ (xs : List Atom). slice_get xs k) meant
+          ∙ meant_at bonds (atom_token m) us 0 k (omega arith)
+          ∙ ap (λ (n : ℕ). Some (meant_by (atom_token m (at g k)) n)) (ap (bond_sum bonds) from_none ∙ reads.sums k less)
+          ∙ token_at m (at g k) (structured.order.in_range k less);
+      few_rings = subst (λ (n : ℕ). independent_rings bonds n ≤ 99) (sym count)
+          (subst (λ (rs : List Role). independent_rings (bonds_of (reverse rs)) (length m.atoms) ≤ 99) (sym same_roles) structured.rings);
+    }
+
+pub is_read : (m : Molecule) → IsSound m → Structured m → IsRead m (written_text m)
+is_read m sound structured =
+    let are = tokens_written m sound structured.numbers in
+    read_as m (written_text m) structured are (unread_none (written_tokens m) are)
+    ((reads_from (written_text m) 0 (omega arith)).same_kinds ∙ kinds_read (written_tokens m) are)

@@ -1,8 +1,0 @@
-use Rattle.std.proofs.Common.{◌≡◌, None}
-use Rattle.std.specs.Prelude.{◌&&◌, not}
-use Rattle.mc_mol.specs.Molecule.{are_joined}
-use Rattle.smi_mean.specs.Written.{least, is_written}
-use Rattle.smi_write.proofs.order.least_unwritten_neighbour.Given as goal
-
-abbrev pub invariant-loop-v : goal.invariant-loop-v
-invariant-loop-v l = least (λ v. are_joined l.mol.bonds l.u v && not (is_written l.written v)) l.v ≡ None

@@ -1,0 +1,29 @@
+-- How far the atoms of a molecule are written.
+use Rattle.std.specs.Prelude.{◌≡◌, ℕ, ◌+◌, ◌*◌, ◌-◌, ◌<◌, ◌⊎◌, List, [], ◌∷◌, ◌++◌, None, length, map, get_or, reverse}
+use Rattle.mc_base.specs.declared.ids.AtomId.{AtomId}
+use Rattle.mc_mol.specs.Molecule.{Molecule}
+use Rattle.smi_mean.specs.Order.{Graph, graph_of, Step, unwritten_neighbour, steps, place, parents, atoms}
+use Rattle.smi_write.specs.declared.order.Walk.{Walk}
+
+-- The stack has the atoms of these steps in their order, but some that have no unwritten neighbour.
+abbrev pub Stacked : Graph → List Step → List Step → List ℕ → Type 0
+Stacked g written [] stack = stack ≡ []
+Stacked g written (s ∷ others) stack =
+    ((unwritten_neighbour g written s.atom ≡ None) × Stacked g written others stack)
+    ⊎ ((us : List ℕ) × (stack ≡ s.atom ∷ us) × Stacked g written others us)
+
+-- the lists that are kept behind these steps: atoms and parents in the written order, and the place of each atom
+pub record HoldsSteps (g : Graph) (before : List Step) (atom_list : List AtomId) (parent_list place_list stack : List ℕ) : Type 0 where
+  pub atoms_are : atom_list ≡ map (λ u. record { 0 = u }) (atoms before)
+  pub parents_are : parent_list ≡ parents before
+  pub count : length place_list ≡ g.count
+  pub places_are : (u : ℕ) → u < g.count → get_or place_list u 0 ≡ place before u
+  pub stacked : Stacked g before before (reverse stack)
+
+-- the first steps are written, with these atoms above the stack
+abbrev pub IsWalkWith : Molecule → Walk → List ℕ → Type 0
+IsWalkWith m w more = HoldsSteps (graph_of m) (steps (graph_of m) (length w.atoms.items)) w.atoms.items w.parents.items w.places.items (w.stack.items ++ more)
+
+-- what is left to do: each atom is put onto the stack once, and taken off once
+abbrev pub left : Molecule → Walk → ℕ
+left m w = 2 * (length m.atoms - length w.atoms.items) + length w.stack.items

@@ -1,0 +1,30 @@
+-- The written order as the writer keeps it.
+use Rattle.std.specs.Prelude.{◌≡◌, ℕ, ◌+◌, ◌-◌, ◌<◌, ◌≤◌, Bool, ◌&&◌, not, ◌==◌, nat_lt, List, length, map, take, drop, get_or}
+use Rattle.mc_mol.specs.declared.parts.HalfEdge.{HalfEdge}
+use Rattle.mc_mol.specs.Molecule.{Molecule}
+use Rattle.smi_mean.specs.Order.{graph_of, order, place, parents, atoms}
+use Rattle.smi_mean.specs.RingNumbers.{has}
+use Rattle.smi_write.specs.declared.order.WrittenAtoms.{WrittenAtoms}
+
+-- the atoms and their parents by place, and the place of each atom
+pub record IsWrittenOrder (m : Molecule) (w : WrittenAtoms) : Type 0 where
+  pub atoms_are : w.atoms.items ≡ map (λ u. record { 0 = u }) (atoms (order (graph_of m)))
+  pub parents_are : w.parents.items ≡ parents (order (graph_of m))
+  pub places_are : (u : ℕ) → u < length m.atoms → get_or w.places.items u 0 ≡ place (order (graph_of m)) u
+  pub place_count : length w.places.items ≡ length m.atoms
+  pub count : length w.atoms.items ≡ length m.atoms
+
+-- the place, from 0, to which a half-edge leads
+abbrev pub place_behind : List ℕ → HalfEdge → ℕ
+place_behind places half = get_or places half.to.0 0 - 1
+
+-- A half-edge of the atom at place k leads to a later place than a given one, and its bond isn't the one to a child.
+abbrev pub opens_ring : List ℕ → List ℕ → ℕ → ℕ → HalfEdge → Bool
+opens_ring places parents k above half =
+    nat_lt (above + 1) (get_or places half.to.0 0) && not (get_or parents (place_behind places half) 0 == k + 1)
+
+-- For each place of a parent, from 1, the greatest place of one of its children among the first n atoms: a later child
+-- of this parent is to come as long as it isn't reached.
+pub record LastChildren (parent_list : List ℕ) (n : ℕ) (last : List ℕ) : Type 0 where
+  pub count : length last ≡ length parent_list + 1
+  pub later : (k p : ℕ) → p ≤ length parent_list → has p (drop (k + 1) (take n parent_list)) ≡ nat_lt k (get_or last p 0)
