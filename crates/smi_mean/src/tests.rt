@@ -1,3 +1,5 @@
+ghost use Rattle.std.specs.Prelude.{◌<◌, ◌-◌, ◌^◌, length};
+
 use crate::read_smiles;
 use mc_base::{AtomId, BondId, Kind, Stop};
 use mc_elements::Element;
@@ -5,11 +7,9 @@ use std::process::Abort;
 use std::test::Fail;
 
 /// The hydrogens of the atoms of a text that stands for a molecule of this many atoms.
-fn has_hydrogens(
-    rt: &(impl Abort + AllocGlobal),
-    line: &[u8],
-    hydrogens: &[u8],
-) -> Result<(), Fail> {
+fn has_hydrogens(rt: &(impl Abort + AllocGlobal), line: &[u8], hydrogens: &[u8]) -> Result<(), Fail>
+    requires { length line.now < 2 ^ 32 - 1 }
+{
     match read_smiles(rt.alloc(), line) {
         Ok(read) => {
             assert!(rt; read.mol.atom_count() as usize == hydrogens.len());
@@ -30,13 +30,16 @@ fn is_refused(
     line: &[u8],
     kind: Kind,
     place: u32,
-) -> Result<(), Fail> {
+) -> Result<(), Fail>
+    requires { length line.now < 2 ^ 32 - 1 }
+{
     match read_smiles(rt.alloc(), line) {
+        Ok(_read) => assert!(rt; false),
+        Err(Stop::NoMemory) => assert!(rt; false),
         Err(Stop::Refused(refusal)) => {
             assert!(rt; refusal.kind == kind);
             assert!(rt; refusal.place == place);
         }
-        _ => assert!(rt; false),
     }
     Ok(())
 }
