@@ -1,35 +1,121 @@
 -- The cases of an answer.
 use Rattle.std.proofs.Common.{arith, ◌≡◌, ◌∙◌, ℕ, List, [], ◌∷◌, ◌++◌, Bool, true, false, refl, sym, ap, subst, inl, inr}
 use Rattle.std.specs.List.{list_all}
-use Rattle.std.specs.Prelude.{◌↔◌, IsTrue, not, nat_le, if◌then◌else◌}
+use Rattle.std.specs.Prelude.{◌↔◌, ◌<◌, ◌||◌, ◌==◌, IsTrue, not, nat_le, if◌then◌else◌, filter, map, cond, Option, Some, None}
 use Rattle.std.proofs.lemmas.Bool.Decides.{nat_tests}
 use Rattle.std.proofs.lemmas.Bool.{false≢true}
 use Rattle.mc_base.specs.declared.kind.Kind.{Kind}
-use Rattle.mc_base.specs.declared.kind.Kind.TheVariants.{NotBuilt}
+use Rattle.mc_base.specs.declared.kind.Kind.TheVariants.{LineTooLong}
 use Rattle.mc_base.specs.declared.refusal.Refusal.{Refusal}
-use Rattle.mc_base.specs.Shown.{IsFirst}
+use Rattle.mc_base.specs.Kinds.{number}
+use Rattle.mc_io.specs.Lines.{line_feed, carriage_return, onto_first, pieces, onto_text, text_of as line_text_of, has_feed, IsLineText}
 use Rattle.mc_mol.specs.Molecule.{Molecule}
 use Rattle.mc_report.specs.Report.{refused_line}
 use Rattle.smi_lex.proofs.Sound.{both_true}
-use Rattle.smi_graph.specs.Skeletons.{IsNoBarrier}
 use Rattle.smi_mean.specs.Lines.{is_blank, text_of, name_of}
-use Rattle.smi_mean.specs.Rules.{StandsAt, SmilesStands}
+use Rattle.smi_mean.specs.Rules.{SmilesStands}
 use Rattle.smi_mean.specs.Written.{written_text}
 use Rattle.mc_convert.specs.declared.answer.Answer.{Answer}
-use Rattle.mc_convert.specs.Records.{lf, without_last_lf, unless_empty, records, is_line, with_name, line}
-use Rattle.mc_convert.specs.Answers.{StandsIn, RecordStands, written_line, Shows, IsAnswer}
+use Rattle.mc_convert.specs.Records.{is_some_text, record_texts, with_name, line}
+use Rattle.mc_convert.specs.Answers.{StandsIn, written_line, Shows, IsRefusedFor, IsAnswer}
 use Rattle.mc_convert.specs.Accepted.{IsAccepted}
 use Rattle.mc_convert.specs.Runs.{IsShown}
 
--- the last LF taken away again
-lf_away : (b : ℕ) (bs : List ℕ) → without_last_lf ((b ∷ bs) ++ lf ∷ []) ≡ b ∷ bs
-lf_away b [] = refl
-lf_away b (c ∷ bs) = ap (λ (x : List ℕ). b ∷ x) (lf_away c bs)
+-- ---- a written line is one record
 
-one_record : (text name : List ℕ) → records (line (with_name text name)) ≡ with_name text name ∷ []
-one_record [] name = ap unless_empty (lf_away 32 name)
-one_record (b ∷ bs) [] = ap unless_empty (lf_away b bs)
-one_record (b ∷ bs) (c ∷ cs) = ap unless_empty (lf_away b (bs ++ (32 ∷ c ∷ cs)))
+-- bytes from 33 on, as those of a text
+abbrev are_high : List ℕ → Bool
+are_high text = list_all (λ byte. nat_le 33 byte) text
+
+no_feed_high : (b : ℕ) → nat_le 33 b ≡ true → (b == line_feed) ≡ false
+no_feed_high b h = grind (arith, nat_tests)
+
+no_return_high : (b : ℕ) → nat_le 33 b ≡ true → (b == carriage_return) ≡ false
+no_return_high b h = grind (arith, nat_tests)
+
+neither : (p q : Bool) → (p || q) ≡ false → (p ≡ false) × (q ≡ false)
+neither true q e = absurd cc
+neither false q e = (refl, e)
+
+-- what stands behind something that ends with no carriage return
+onto_some : (b c : ℕ) (text : List ℕ) → line_text_of (c ∷ text) ≡ c ∷ text → line_text_of (b ∷ c ∷ text) ≡ b ∷ c ∷ text
+onto_some b c text same = ap (onto_text b) same
+
+-- what stands behind a byte of a line's text is such a text
+text_behind : (b : ℕ) (bytes : List ℕ) → IsLineText (b ∷ bytes) → IsLineText bytes
+text_behind b bytes h = record { one = (neither (b == line_feed) (has_feed bytes) h.one).1; ends = behind b bytes (line_text_of bytes) h.ends }
+  where
+    alone : (t : Bool) (b : ℕ) (bytes : List ℕ) → (if t then [] else b ∷ []) ≡ b ∷ bytes → [] ≡ bytes
+    alone true b bytes e = absurd cc
+    alone false b bytes e = cc
+
+    behind : (b : ℕ) (bytes text : List ℕ) → onto_text b text ≡ b ∷ bytes → text ≡ bytes
+    behind b bytes [] e = alone (b == carriage_return) b bytes e
+    behind b bytes (c ∷ text) e = cc
+
+name_text : (bytes : List ℕ) → IsLineText bytes → IsLineText (name_of bytes)
+name_text [] h = h
+name_text (b ∷ bytes) h = by_test (is_blank b) (text_behind b bytes h) (name_text bytes (text_behind b bytes h))
+  where
+    by_test : (t : Bool) → IsLineText bytes → IsLineText (name_of bytes) → IsLineText (if t then bytes else name_of bytes)
+    by_test true later name = later
+    by_test false later name = name
+
+-- a text with nothing behind it
+alone_text : (text : List ℕ) → are_high text ≡ true → IsLineText text
+alone_text [] h = record { one = refl; ends = refl }
+alone_text (b ∷ bs) h =
+    let both = both_true (nat_le 33 b) (are_high bs) h in
+    let later = alone_text bs both.1 in record {
+      one = rw (no_feed_high b both.0) later.one;
+      ends = onto b bs (no_return_high b both.0) later.ends;
+    }
+  where
+    onto : (b : ℕ) (bs : List ℕ) → (b == carriage_return) ≡ false → line_text_of bs ≡ bs → line_text_of (b ∷ bs) ≡ b ∷ bs
+    onto b [] other same = rw other refl
+    onto b (c ∷ bs) other same = onto_some b c bs same
+
+-- a text with more behind it
+text_with : (text : List ℕ) (c : ℕ) (more : List ℕ) → are_high text ≡ true → IsLineText (c ∷ more) → IsLineText (text ++ c ∷ more)
+text_with [] c more h behind = behind
+text_with (b ∷ bs) c more h behind =
+    let both = both_true (nat_le 33 b) (are_high bs) h in
+    let later = text_with bs c more both.1 behind in record {
+      one = rw (no_feed_high b both.0) later.one;
+      ends = onto b bs later.ends;
+    }
+  where
+    onto : (b : ℕ) (bs : List ℕ) → line_text_of (bs ++ c ∷ more) ≡ bs ++ c ∷ more → line_text_of (b ∷ bs ++ c ∷ more) ≡ b ∷ bs ++ c ∷ more
+    onto b [] same = onto_some b c more same
+    onto b (d ∷ bs) same = onto_some b d (bs ++ c ∷ more) same
+
+blank_before : (name : List ℕ) → IsLineText name → IsLineText (32 ∷ name)
+blank_before [] h = record { one = refl; ends = refl }
+blank_before (c ∷ cs) h = record { one = h.one; ends = onto_some 32 c cs h.ends }
+
+with_name_text : (text name : List ℕ) → are_high text ≡ true → IsLineText name → IsLineText (with_name text name)
+with_name_text [] name high named = blank_before name named
+with_name_text (b ∷ bs) [] high named = alone_text (b ∷ bs) high
+with_name_text (b ∷ bs) (c ∷ cs) high named = text_with (b ∷ bs) 32 (c ∷ cs) high (blank_before (c ∷ cs) named)
+
+one_piece : (text : List ℕ) → has_feed text ≡ false → pieces (line text) ≡ text ∷ []
+one_piece [] clear = refl
+one_piece (b ∷ bs) clear =
+    let both = neither (b == line_feed) (has_feed bs) clear in
+    rw (both.0) (ap (onto_first b) (one_piece bs both.1))
+
+one_text : (text : List ℕ) → IsLineText text → is_some_text text ≡ true → record_texts (line text) ≡ text ∷ []
+one_text text h some =
+    ap (λ ps. filter is_some_text (map line_text_of ps)) (one_piece text h.one) ∙ ap (λ t. filter is_some_text (t ∷ [])) h.ends
+    ∙ ap (λ (t : Bool). cond t (text ∷ []) []) some
+
+with_name_some : (text name : List ℕ) → is_some_text (with_name text name) ≡ true
+with_name_some [] name = refl
+with_name_some (b ∷ bs) [] = refl
+with_name_some (b ∷ bs) (c ∷ cs) = refl
+
+one_record : (text bytes : List ℕ) → are_high text ≡ true → IsLineText bytes → record_texts (line (with_name text (name_of bytes))) ≡ with_name text (name_of bytes) ∷ []
+one_record text bytes high h = one_text (with_name text (name_of bytes)) (with_name_text text (name_of bytes) high (name_text bytes h)) (with_name_some text (name_of bytes))
 
 -- A text without blanks and a name are read as they were put.
 not_blank : (b : ℕ) → not (is_blank b) ≡ true → is_blank b ≡ false
@@ -68,37 +154,10 @@ parts_of [] name h = (refl, refl)
 parts_of (b ∷ bs) [] h = text_alone (b ∷ bs) h
 parts_of (b ∷ bs) (c ∷ cs) h = text_before (b ∷ bs) (c ∷ cs) h
 
--- a line stands for what its text stands for
-stands_text : (bytes : List ℕ) (kind : Kind) (place : ℕ) → is_line bytes ≡ true → StandsIn bytes kind place → StandsAt (text_of bytes) kind place
-stands_text bytes NotBuilt place one (at, inl other) = absurd (false≢true (sym other ∙ one))
-stands_text bytes NotBuilt place one (at, inr here) = subst (λ (n : ℕ). StandsAt (text_of bytes) NotBuilt n) (sym at) here
-stands_text bytes _ place one h = h
+-- ---- answers
 
-text_stands : (bytes : List ℕ) (kind : Kind) (place : ℕ) → StandsAt (text_of bytes) kind place → StandsIn bytes kind place
-text_stands bytes NotBuilt place (at, whole, unbuilt) = (at, inr (refl, whole, unbuilt))
-text_stands bytes _ place h = h
-
-record_stands : (bytes : List ℕ) (m : Molecule) → is_line bytes ≡ true → SmilesStands (text_of bytes) m → RecordStands bytes m
-record_stands bytes m one stands = record { accepted = λ kind place h. stands.accepted kind place (stands_text bytes kind place one h); molecule = stands.molecule }
-
-pub shows_text : (bytes : List ℕ) (refusal : Refusal) → is_line bytes ≡ true → IsFirst (StandsAt (text_of bytes)) IsNoBarrier refusal → Shows bytes refusal
-shows_text bytes refusal one f = record {
-  stands = text_stands bytes refusal.kind refusal.place f.stands;
-  least = λ place h. f.least place (stands_text bytes refusal.kind place one h);
-  first = λ kind place less h. f.first kind place less (stands_text bytes kind place one h);
-  reason = f.reason;
-}
-
-pub shows_not_line : (bytes : List ℕ) → is_line bytes ≡ false → Shows bytes (record { kind = NotBuilt; place = 1; barrier = []; odd = 0 })
-shows_not_line bytes other = record {
-  stands = (refl, inl other);
-  least = λ place h. let at = h.0 in omega arith;
-  first = λ kind place less h. absurd (omega arith);
-  reason = (refl, refl);
-}
-
-pub is_written : (k : ℕ) (bytes name : List ℕ) (m : Molecule) (answer : Answer) → is_line bytes ≡ true → name ≡ name_of bytes → SmilesStands (text_of bytes) m → IsAccepted k m name answer
-    → IsAnswer k bytes record { out = answer.out; report = answer.report }
+pub is_written : (k : ℕ) (bytes name : List ℕ) (m : Molecule) (answer : Answer) → IsLineText bytes → name ≡ name_of bytes → SmilesStands (text_of bytes) m → IsAccepted k m name answer
+    → IsAnswer k (Some bytes) record { out = answer.out; report = answer.report }
 is_written k bytes name m answer one named stands a =
     let back = a.reads in
     let parts = parts_of (written_text m) (name_of bytes) (no_blanks (written_text m) a.no_blanks) in
@@ -106,9 +165,9 @@ is_written k bytes name m answer one named stands a =
     inl (record {
       input = m;
       output = back.molecule;
-      stands = record_stands bytes m one stands;
+      stands = stands;
       form = out;
-      one_record = ap records out ∙ one_record (written_text m) (name_of bytes);
+      one_record = ap record_texts out ∙ one_record (written_text m) bytes a.no_blanks one;
       name = parts.1;
       reads = subst (λ (x : List ℕ). SmilesStands x back.molecule) (sym parts.0) back.reads;
       only = λ other h. back.only other (subst (λ (x : List ℕ). SmilesStands x other) parts.0 h);
@@ -116,13 +175,37 @@ is_written k bytes name m answer one named stands a =
       report = a.report;
     })
 
-pub none_shown : (bytes : List ℕ) (m : Molecule) (b : Bool) → is_line bytes ≡ true → b ≡ false → SmilesStands (text_of bytes) m → IsTrue b ↔ IsShown bytes
-none_shown bytes m b one off stands = (λ on. absurd (false≢true (sym off ∙ on)), λ (refusal, shows). absurd (stands.accepted refusal.kind refusal.place (stands_text bytes refusal.kind refusal.place one shows.stands)))
+pub none_shown : (bytes : List ℕ) (m : Molecule) (b : Bool) → b ≡ false → SmilesStands (text_of bytes) m → IsTrue b ↔ IsShown (Some bytes)
+none_shown bytes m b off stands = (λ on. absurd (false≢true (sym off ∙ on)), λ (refusal, shows). absurd (stands.accepted refusal.kind refusal.place shows.stands))
 
-pub is_refused : (k : ℕ) (bytes : List ℕ) (refusal : Refusal) (answer : Answer) → Shows bytes refusal → answer ≡ record { out = []; report = refused_line k refusal; refused = true }
-    → IsAnswer k bytes record { out = answer.out; report = answer.report }
-is_refused k bytes refusal answer shows is = inr (record { refusal = refusal; shows = shows; out = ap (λ (a : Answer). a.out) is; report = ap (λ (a : Answer). a.report) is })
+-- a refusal that is shown is an answer
+refused_for : (k : ℕ) (text : Option (List ℕ)) (refusal : Refusal) (answer : Answer) → Shows text refusal → answer ≡ record { out = []; report = refused_line k refusal; refused = true }
+    → IsRefusedFor k text record { out = answer.out; report = answer.report }
+refused_for k text refusal answer shows is = record { refusal = refusal; shows = shows; out = ap (λ (a : Answer). a.out) is; report = ap (λ (a : Answer). a.report) is }
 
-pub is_shown : (k : ℕ) (bytes : List ℕ) (refusal : Refusal) (answer : Answer) → Shows bytes refusal → answer ≡ record { out = []; report = refused_line k refusal; refused = true }
-    → IsTrue answer.refused ↔ IsShown bytes
-is_shown k bytes refusal answer shows is = (λ _. (refusal, shows), λ _. ap (λ (a : Answer). a.refused) is)
+pub is_refused : (k : ℕ) (bytes : List ℕ) (refusal : Refusal) (answer : Answer) → Shows (Some bytes) refusal → answer ≡ record { out = []; report = refused_line k refusal; refused = true }
+    → IsAnswer k (Some bytes) record { out = answer.out; report = answer.report }
+is_refused k bytes refusal answer shows is = inr (refused_for k (Some bytes) refusal answer shows is)
+
+pub is_shown : (k : ℕ) (text : Option (List ℕ)) (refusal : Refusal) (answer : Answer) → Shows text refusal → answer ≡ record { out = []; report = refused_line k refusal; refused = true }
+    → IsTrue answer.refused ↔ IsShown text
+is_shown k text refusal answer shows is = (λ _. (refusal, shows), λ _. ap (λ (a : Answer). a.refused) is)
+
+-- ---- a line that is too long
+
+abbrev long_refusal : Refusal
+long_refusal = record { kind = LineTooLong; place = 1; barrier = []; odd = 0 }
+
+long_shown : Shows None long_refusal
+long_shown = record { stands = refl; least = λ place h. omega arith; first = none_first; reason = (refl, refl) }
+  where
+    none_first : (kind : Kind) (place : ℕ) → number kind < number LineTooLong → StandsIn None kind place → ⊥
+    none_first LineTooLong place less h = omega arith
+    none_first _ place less h = h
+
+pub long_refused : (k : ℕ) (answer : Answer) → answer ≡ record { out = []; report = refused_line k long_refusal; refused = true }
+    → IsAnswer k None record { out = answer.out; report = answer.report }
+long_refused k answer is = refused_for k None long_refusal answer long_shown is
+
+pub long_is_shown : (k : ℕ) (answer : Answer) → answer ≡ record { out = []; report = refused_line k long_refusal; refused = true } → IsTrue answer.refused ↔ IsShown None
+long_is_shown k answer is = is_shown k None long_refusal answer long_shown is

@@ -1,3 +1,13 @@
 pub mod Answering
+pub mod CheckEnds
+pub mod CheckFound
+pub mod CheckLifts
+pub mod Checking
+pub mod CommandLines
+pub mod Commands
+pub mod FindingsOnce
 pub mod OneAnswer
+pub mod ReaderSteps
+pub mod Rests
 pub mod Running
+pub mod SameRefusal

@@ -1,140 +1,339 @@
--- What the outputs have got when a run ends.
-use Rattle.std.proofs.Common.{◌≡◌, ℕ, suc, ◌+◌, ◌-◌, ◌<◌, List, [], ◌∷◌, ◌++◌, length, take, drop, get_or, Option, Some, None, Bool, true, false, refl, ap, sym, ◌∙◌, subst, inl, inr, arith}
-use Rattle.std.specs.Prelude.{◌⊎◌, ◌↔◌, IsTrue, IfSome, if◌then◌else◌, ◌==◌}
+-- What the outputs have got while a run answers records, and when it ends.
+use Rattle.std.proofs.Common.{◌≡◌, ℕ, ◌+◌, ◌-◌, ◌<◌, ◌≤◌, ◌^◌, List, [], ◌∷◌, ◌++◌, length, take, drop, Option, Some, None, Bool, true, false, refl, ap, sym, ◌∙◌, subst, inl, inr, arith}
+use Rattle.std.specs.Prelude.{◌⊎◌, ◌↔◌, ◌||◌, IsTrue, IfSome, Result, Ok, Err}
 use Rattle.std.proofs.lemmas.Bool.{false≢true}
-use Rattle.std.proofs.lemmas.Bool.Decides.{nat_tests}
-use Rattle.std.specs.Io.KnownBytes.{Appends}
-use Rattle.std.proofs.KnownBytes.{Appends-nil}
-use Rattle.std.proofs.lemmas.List.{take-append-drop, append-nil, length-take, length-append}
-use Rattle.mc_io.specs.Outside.{AppendsPart}
-use Rattle.mc_convert.specs.Records.{lf, without_last_lf, unless_empty, records}
+use Rattle.std.specs.Io.KnownBytes.{Appends, IsAtEnd, prepend_known}
+use Rattle.std.proofs.KnownBytes.{Appends-nil, Appends-trans, prepend_known-nil}
+use Rattle.std.proofs.lemmas.List.{append_assoc, append-nil, length-append, length-take, take-append-drop}
+use Rattle.mc_io.specs.declared.whole.ReadStop.{ReadStop}
+use Rattle.mc_io.specs.declared.whole.ReadStop.TheVariants.{ReadFault, InputLimit, NoMemory}
+use Rattle.mc_io.specs.Outside.{AppendsPart, SameBut}
+use Rattle.mc_io.specs.LineReader.{LineReader, ahead}
+use Rattle.mc_convert.specs.declared.records.NextLine.{NextLine}
+use Rattle.mc_convert.specs.declared.records.NextLine.TheVariants.{Line, TooLong, End}
+use Rattle.mc_convert.specs.declared.status.Halt.{Halt}
+use Rattle.mc_convert.specs.declared.status.Halt.TheVariants.{ReadFault as ReadHalt, InputLimit as LimitHalt, WriteFault as WriteHalt, NoMemory as MemoryHalt}
+use Rattle.mc_convert.specs.declared.status.Status.TheVariants.{Done, SomeRefused, Memory}
+use Rattle.mc_convert.specs.Records.{records}
+use Rattle.mc_convert.specs.Readers.{Told, Reading, HasEnded, TakesRecords, GivesRecord, found, fresh, passed_by}
 use Rattle.mc_convert.specs.Answers.{Reply, IsAnswer, Answers, outs, reports, Whole, Stopped, IsLessThanWhole}
-use Rattle.mc_convert.specs.Runs.{Grown, AnswersSome, SomeShown, AllIsHeld}
-use Rattle.mc_convert.proofs.OneAnswer.{one_answer}
+use Rattle.mc_convert.specs.Runs.{Grown, AnswersSome, AnswersLess, IsShown, SomeShown, AllIsHeld, Held, Holds, HoldsLess, RanWhole, HasStopped}
+use Rattle.mc_convert.specs.Statuses.{halt_of, status_of}
+use Rattle.mc_convert.proofs.ReaderSteps.{takes_trans, takes_none, reading_trans, same_but_trans, rose_later}
+use Rattle.mc_convert.proofs.OneAnswer.{less_than_all}
 
-pub answers_none : (input a b : Option (List ℕ)) → AnswersSome input a a b b
-answers_none None a b = tt
-answers_none (Some bytes) a b = record { more0 = []; more1 = []; out = Appends-nil a; report = Appends-nil b; holds = inl (refl, refl) }
+-- The records that were answered so far.
+pub record Progress (number : ℕ) (refused : Bool) (input ahead : Option (List ℕ)) (old new : Held) : Type 0 where
+  pub done : List (Option (List ℕ))
+  pub replies : List Reply
+  pub count : length done ≡ number
+  pub takes : TakesRecords input ahead done
+  pub answers : Answers 1 done replies
+  pub in_out : Appends old.out new.out (outs replies)
+  pub in_report : Appends old.report new.report (reports replies)
+  pub shown : IsTrue refused ↔ SomeShown done
 
-appends_nothing : (a b : Option (List ℕ)) → b ≡ a → Appends a b []
-appends_nothing a b e = let P : Option (List ℕ) → Type 0 = λ x. Appends a x [] in subst P (sym e) (Appends-nil a)
+-- ---- lists of answers
 
-appends_kept : (a b c : Option (List ℕ)) (bs : List ℕ) → Appends a b bs → c ≡ b → Appends a c bs
-appends_kept a b c bs h e = let P : Option (List ℕ) → Type 0 = λ x. Appends a x bs in subst P (sym e) h
+pub answers_push : (k : ℕ) (done : List (Option (List ℕ))) (replies : List Reply) (text : Option (List ℕ)) (reply : Reply)
+    → Answers k done replies → IsAnswer (k + length done) text reply → Answers k (done ++ text ∷ []) (replies ++ reply ∷ [])
+answers_push k [] [] text reply h a = let P : ℕ → Type 0 = λ i. IsAnswer i text reply in (subst P (omega arith) a, tt)
+answers_push k [] (r ∷ replies) text reply h a = absurd h
+answers_push k (t ∷ done) [] text reply h a = absurd h
+answers_push k (t ∷ done) (r ∷ replies) text reply (one, more) a =
+    let P : ℕ → Type 0 = λ i. IsAnswer i text reply in
+    let place : k + length (t ∷ done) ≡ k + 1 + length done = omega arith in
+    (one, answers_push (k + 1) done replies text reply more (subst P place a))
 
-appends_from : (a b c : Option (List ℕ)) (bs : List ℕ) → b ≡ a → Appends b c bs → Appends a c bs
-appends_from a b c bs e h = let P : Option (List ℕ) → Type 0 = λ x. Appends x c bs in subst P e h
+answers_count : (k : ℕ) (done : List (Option (List ℕ))) (replies : List Reply) → Answers k done replies → length done ≡ length replies
+answers_count k [] [] h = refl
+answers_count k [] (r ∷ replies) h = absurd h
+answers_count k (t ∷ done) [] h = absurd h
+answers_count k (t ∷ done) (r ∷ replies) (one, more) = let e = answers_count (k + 1) done replies more in omega arith
 
-pub nothing_held : (texts : List (List ℕ)) (a b : Option (List ℕ)) → Grown a a b b (Stopped texts)
-nothing_held texts a b = record { more0 = []; more1 = []; out = Appends-nil a; report = Appends-nil b; holds = inl (refl, refl) }
+outs_push : (replies : List Reply) (reply : Reply) → outs (replies ++ reply ∷ []) ≡ outs replies ++ reply.out
+outs_push [] reply = append-nil reply.out
+outs_push (r ∷ replies) reply = ap (λ x. r.out ++ x) (outs_push replies reply) ∙ sym (append_assoc r.out (outs replies) reply.out)
 
-pub part_of_out : (text : List ℕ) (reply : Reply) (a0 b0 a1 b1 : Option (List ℕ)) → IsAnswer 1 text reply → AppendsPart a0 b0 reply.out → b1 ≡ a1 → Grown a0 b0 a1 b1 (Stopped (text ∷ []))
-part_of_out text reply a0 b0 a1 b1 answer (n, within, part) same = record {
-  more0 = take n reply.out;
-  more1 = [];
-  out = part;
-  report = appends_nothing a1 b1 same;
-  holds = inr (record { before = []; last = reply; part0 = take n reply.out; part1 = []; answers = (answer, tt); part = inl ((drop n reply.out, sym (take-append-drop n reply.out)), refl); out = refl; report = refl });
-}
+reports_push : (replies : List Reply) (reply : Reply) → reports (replies ++ reply ∷ []) ≡ reports replies ++ reply.report
+reports_push [] reply = append-nil reply.report
+reports_push (r ∷ replies) reply = ap (λ x. r.report ++ x) (reports_push replies reply) ∙ sym (append_assoc r.report (reports replies) reply.report)
 
-pub part_of_report : (text : List ℕ) (reply : Reply) (a0 c0 d0 a1 b1 d1 : Option (List ℕ)) → IsAnswer 1 text reply → Appends a0 c0 reply.out → d0 ≡ c0 → b1 ≡ a1 → AppendsPart b1 d1 reply.report
-    → Grown a0 d0 a1 d1 (Stopped (text ∷ []))
-part_of_report text reply a0 c0 d0 a1 b1 d1 answer whole kept same (n, within, part) = record {
-  more0 = reply.out;
-  more1 = take n reply.report;
-  out = appends_kept a0 c0 d0 reply.out whole kept;
-  report = appends_from a1 b1 d1 (take n reply.report) same part;
-  holds = inr (record { before = []; last = reply; part0 = reply.out; part1 = take n reply.report; answers = (answer, tt); part = inr (refl, (drop n reply.report, sym (take-append-drop n reply.report))); out = refl; report = refl });
-}
+shown_push : (done : List (Option (List ℕ))) (text : Option (List ℕ)) → SomeShown done ⊎ IsShown text → SomeShown (done ++ text ∷ [])
+shown_push [] text (inl h) = absurd h
+shown_push [] text (inr h) = inl h
+shown_push (t ∷ done) text (inl (inl h)) = inl h
+shown_push (t ∷ done) text (inl (inr h)) = inr (shown_push done text (inl h))
+shown_push (t ∷ done) text (inr h) = inr (shown_push done text (inr h))
 
-pub all_of_both : (text : List ℕ) (reply : Reply) (a0 c0 d0 a1 b1 d1 : Option (List ℕ)) → IsAnswer 1 text reply → Appends a0 c0 reply.out → d0 ≡ c0 → b1 ≡ a1 → Appends b1 d1 reply.report
-    → Grown a0 d0 a1 d1 (Whole (text ∷ []))
-all_of_both text reply a0 c0 d0 a1 b1 d1 answer whole kept same lines = record {
-  more0 = reply.out;
-  more1 = reply.report;
-  out = appends_kept a0 c0 d0 reply.out whole kept;
-  report = appends_from a1 b1 d1 reply.report same lines;
-  holds = record { replies = reply ∷ []; answers = (answer, tt); out = sym (append-nil reply.out); report = sym (append-nil reply.report) };
-}
+shown_pop : (done : List (Option (List ℕ))) (text : Option (List ℕ)) → SomeShown (done ++ text ∷ []) → SomeShown done ⊎ IsShown text
+shown_pop [] text (inl h) = inr h
+shown_pop [] text (inr h) = absurd h
+shown_pop (t ∷ done) text (inl h) = inl (inl h)
+shown_pop (t ∷ done) text (inr h) = elim (shown_pop done text h) [ inl there ↦ inl (inr there) | inr here ↦ inr here ]
 
--- Where a part of a record is held, less than the whole answer is.
-pub less_by_out : (text : List ℕ) (reply : Reply) (a0 b0 a1 b1 : Option (List ℕ)) → IsAnswer 1 text reply → AppendsPart a0 b0 reply.out → b1 ≡ a1 → Grown a0 b0 a1 b1 (IsLessThanWhole (text ∷ []))
-less_by_out text reply a0 b0 a1 b1 answer (n, within, part) same = record {
-  more0 = take n reply.out;
-  more1 = [];
-  out = part;
-  report = appends_nothing a1 b1 same;
-  holds = λ replies answers. let len : length (take n reply.out) ≡ n = length-take n reply.out ∙ omega arith in one_answer text reply replies (length (take n reply.out)) 0 answer answers (omega arith);
-}
+either_shown : (r b : Bool) (done : List (Option (List ℕ))) (text : Option (List ℕ)) → (IsTrue r ↔ SomeShown done) → (IsTrue b ↔ IsShown text) → IsTrue (r || b) ↔ SomeShown (done ++ text ∷ [])
+either_shown true b done text some one = (λ _. shown_push done text (inl (some.0 refl)), λ _. refl)
+either_shown false b done text some one =
+    (λ on. shown_push done text (inr (one.0 on)), λ h. elim (shown_pop done text h) [ inl there ↦ absurd (false≢true (some.1 there)) | inr here ↦ one.1 here ])
 
-pub less_by_report : (text : List ℕ) (reply : Reply) (a0 c0 d0 a1 b1 d1 : Option (List ℕ)) → IsAnswer 1 text reply → Appends a0 c0 reply.out → d0 ≡ c0 → b1 ≡ a1 → AppendsPart b1 d1 reply.report
-    → Grown a0 d0 a1 d1 (IsLessThanWhole (text ∷ []))
-less_by_report text reply a0 c0 d0 a1 b1 d1 answer whole kept same (n, within, part) = record {
-  more0 = reply.out;
-  more1 = take n reply.report;
-  out = appends_kept a0 c0 d0 reply.out whole kept;
-  report = appends_from a1 b1 d1 (take n reply.report) same part;
-  holds = λ replies answers. let len : length (take n reply.report) ≡ n = length-take n reply.report ∙ omega arith in one_answer text reply replies (length reply.out) (length (take n reply.report)) answer answers (omega arith);
-}
-
--- the record of a text
-pub records_none : (text : List ℕ) → length (without_last_lf text) ≡ 0 → records text ≡ []
-records_none text e = by_length (without_last_lf text) e
+take_front : (xs ys : List (Option (List ℕ))) (n : ℕ) → n ≡ length xs → take n (xs ++ ys) ≡ xs
+take_front xs ys n e = ap (λ i. take i (xs ++ ys)) e ∙ front xs
   where
-    by_length : (w : List ℕ) → length w ≡ 0 → unless_empty w ≡ []
-    by_length [] e = refl
-    by_length (b ∷ bs) e = absurd (omega (arith, e))
+    front : (xs : List (Option (List ℕ))) → take (length xs) (xs ++ ys) ≡ xs
+    front [] = refl
+    front (x ∷ xs) = ap (λ l. x ∷ l) (front xs)
 
-pub records_one : (text : List ℕ) → 0 < length (without_last_lf text) → records text ≡ without_last_lf text ∷ []
-records_one text less = by_length (without_last_lf text) less
+if_some : {A : Type 0} (o : Option A) (P Q : A → Type 0) → ((x : A) → P x → Q x) → IfSome o P → IfSome o Q
+if_some None P Q f h = tt
+if_some (Some x) P Q f h = f x h
+
+-- ---- from the first record to the next
+
+pub begun : (input : Option (List ℕ)) (held : Held) → Progress 0 false input (prepend_known [] input) held held
+begun input held =
+    let P : Option (List ℕ) → Type 0 = λ x. TakesRecords input x [] in record {
+      done = [];
+      replies = [];
+      count = refl;
+      takes = subst P (sym (prepend_known-nil input)) (takes_none input);
+      answers = tt;
+      in_out = Appends-nil held.out;
+      in_report = Appends-nil held.report;
+      shown = (λ on. absurd (false≢true on), λ h. absurd h);
+    }
+
+pub went_on : (n m : ℕ) (r b : Bool) (input ahead rest : Option (List ℕ)) (old mid new : Held) (text : Option (List ℕ)) (reply : Reply)
+    → Progress n r input ahead old mid → TakesRecords ahead rest (text ∷ []) → m ≡ n + 1 → IsAnswer m text reply → (IsTrue b ↔ IsShown text) → Holds reply mid new
+    → Progress m (r || b) input rest old new
+went_on n m r b input ahead rest old mid new text reply p takes next answer shown held =
+    let count = p.count in
+    let Numbered : ℕ → Type 0 = λ i. IsAnswer i text reply in
+    let place : m ≡ 1 + length p.done = omega arith in
+    let Out : List ℕ → Type 0 = λ l. Appends old.out new.out l in
+    let Report : List ℕ → Type 0 = λ l. Appends old.report new.report l in
+    let more = length-append p.done (text ∷ []) in record {
+      done = p.done ++ text ∷ [];
+      replies = p.replies ++ reply ∷ [];
+      count = omega arith;
+      takes = takes_trans input ahead rest p.done (text ∷ []) p.takes takes;
+      answers = answers_push 1 p.done p.replies text reply p.answers (subst Numbered place answer);
+      in_out = subst Out (sym (outs_push p.replies reply)) (Appends-trans old.out mid.out new.out (outs p.replies) reply.out p.in_out held.in_out);
+      in_report = subst Report (sym (reports_push p.replies reply)) (Appends-trans old.report mid.report new.report (reports p.replies) reply.report p.in_report held.in_report);
+      shown = either_shown r b p.done text p.shown shown;
+    }
+
+-- a record that was passed was taken
+pub one_taken : (next : NextLine) (all rest : Option (List ℕ)) (text : List ℕ) → (next ≡ End → ⊥) → GivesRecord (Ok next) all rest text → TakesRecords all rest (found next text ∷ [])
+one_taken Line all rest text some h = h
+one_taken TooLong all rest text some h = h
+one_taken End all rest text some h = absurd (some refl)
+
+pub one_passed : (next : NextLine) → (next ≡ End → ⊥) → passed_by next ≡ 1
+one_passed Line some = refl
+one_passed TooLong some = refl
+one_passed End some = absurd (some refl)
+
+pub is_within : (limit : ℕ) (next : NextLine) (new : LineReader) (before after : Told) → HasEnded limit (Ok next) new before after → new.taken ≤ limit
+is_within limit Line new before after h = h
+is_within limit TooLong new before after h = h
+is_within limit End new before after h = h.0
+
+-- ---- the end
+
+all_taken : (input ahead rest : Option (List ℕ)) (done : List (Option (List ℕ))) → TakesRecords input ahead done → TakesRecords ahead rest [] → IsAtEnd rest → IfSome input (λ bytes. done ≡ records bytes)
+all_taken None ahead rest done first last none = tt
+all_taken (Some a) None rest done first last none = absurd first
+all_taken (Some a) (Some b) None done first last none = absurd last
+all_taken (Some a) (Some b) (Some c) done first last none = sym (first ∙ ap (λ l. done ++ l) (last ∙ ap records none) ∙ append-nil done)
+
+pub ran_whole : (n : ℕ) (r : Bool) (ahead rest : Option (List ℕ)) (before after : Told) (old new : Held)
+    → Progress n r before.left ahead old new → TakesRecords ahead rest [] → IsAtEnd rest → IsTrue after.ended → RanWhole r before after old new
+ran_whole n r ahead rest before after old new p takes none ended =
+    let all = all_taken before.left ahead rest p.done p.takes takes none in
+    let Same : List ℕ → Type 0 = λ bytes. p.done ≡ records bytes in record {
+      at_end = ended;
+      all = if_some before.left Same (λ bytes. Grown old.out new.out old.report new.report (Whole (records bytes))) (λ bytes is. record {
+        more0 = outs p.replies;
+        more1 = reports p.replies;
+        out = p.in_out;
+        report = p.in_report;
+        holds = record { replies = p.replies; answers = subst (λ (x : List (Option (List ℕ))). Answers 1 x p.replies) is p.answers; out = refl; report = refl };
+      }) all;
+      shown = if_some before.left Same (λ bytes. IsTrue r ↔ SomeShown (records bytes)) (λ bytes is. subst (λ (x : List (Option (List ℕ))). IsTrue r ↔ SomeShown x) is p.shown) all;
+    }
+
+-- ---- a stop
+
+record IsFront (done : List (Option (List ℕ))) (bytes : List ℕ) : Type 0 where
+  rest : List (Option (List ℕ))
+  is : records bytes ≡ done ++ rest
+
+front_taken : (input ahead : Option (List ℕ)) (done : List (Option (List ℕ))) → TakesRecords input ahead done → IfSome input (IsFront done)
+front_taken None ahead done h = tt
+front_taken (Some a) None done h = absurd h
+front_taken (Some a) (Some b) done h = record { rest = records b; is = h }
+
+record EndsWith (replies : List Reply) : Type 0 where
+  before : List Reply
+  last : Reply
+  is : replies ≡ before ++ last ∷ []
+
+ends_with : (replies : List Reply) → (replies ≡ []) ⊎ EndsWith replies
+ends_with [] = inl refl
+ends_with (r ∷ replies) = onto (ends_with replies)
   where
-    by_length : (w : List ℕ) → 0 < length w → unless_empty w ≡ w ∷ []
-    by_length [] less = absurd (omega arith)
-    by_length (b ∷ bs) less = refl
+    onto : (replies ≡ []) ⊎ EndsWith replies → (r ∷ replies ≡ []) ⊎ EndsWith (r ∷ replies)
+    onto (inl none) = inr (record { before = []; last = r; is = ap (λ l. r ∷ l) none })
+    onto (inr e) = inr (record { before = r ∷ e.before; last = e.last; is = ap (λ l. r ∷ l) e.is })
 
-pub whole_none : (a b : Option (List ℕ)) → Grown a a b b (Whole [])
-whole_none a b = record { more0 = []; more1 = []; out = Appends-nil a; report = Appends-nil b; holds = record { replies = []; answers = tt; out = refl; report = refl } }
-
--- a text less its last LF
-less_last : ℕ → List ℕ → List ℕ
-less_last n text = if get_or text n 0 == lf then take n text else text
-
-last_lf : (b : ℕ) (bs : List ℕ) → without_last_lf (b ∷ bs) ≡ (if get_or (b ∷ bs) (length bs) 0 == lf then take (length bs) (b ∷ bs) else b ∷ bs)
-last_lf b [] = refl
-last_lf b (c ∷ bs) = ap (λ t. b ∷ t) (last_lf c bs) ∙ onto (get_or (c ∷ bs) (length bs) 0 == lf)
+-- behind whole answers
+stopped_whole : (texts done rest : List (Option (List ℕ))) (replies : List Reply) → texts ≡ done ++ rest → Answers 1 done replies → Stopped texts (outs replies) (reports replies)
+stopped_whole texts done rest replies is answers = by_end (ends_with replies)
   where
-    onto : (h : Bool) → b ∷ (if h then take (length bs) (c ∷ bs) else c ∷ bs) ≡ (if h then b ∷ take (length bs) (c ∷ bs) else b ∷ c ∷ bs)
-    onto true = refl
-    onto false = refl
+    by_end : (replies ≡ []) ⊎ EndsWith replies → Stopped texts (outs replies) (reports replies)
+    by_end (inl none) = inl (ap outs none, ap reports none)
+    by_end (inr e) =
+        let count = answers_count 1 done replies answers in
+        let more = length-append e.before (e.last ∷ []) in
+        let whole = ap (λ (x : List Reply). length x) e.is in
+        let front : done ≡ take (length e.before + 1) texts = sym (ap (take (length e.before + 1)) is ∙ take_front done rest (length e.before + 1) (omega arith)) in
+        let First : List Reply → Type 0 = λ x. Answers 1 done x in
+        let Of : List (Option (List ℕ)) → Type 0 = λ x. Answers 1 x (e.before ++ e.last ∷ []) in
+        inr (record {
+          before = e.before;
+          last = e.last;
+          part0 = e.last.out;
+          part1 = e.last.report;
+          answers = subst Of front (subst First e.is answers);
+          part = inr (refl, ([], sym (append-nil e.last.report)));
+          out = ap outs e.is ∙ outs_push e.before e.last;
+          report = ap reports e.is ∙ reports_push e.before e.last;
+        })
 
-less_one : (bs : List ℕ) → suc (length bs) - 1 ≡ length bs
-less_one bs = omega arith
+pub stopped_between : (n : ℕ) (r : Bool) (input ahead : Option (List ℕ)) (old new : Held) → Progress n r input ahead old new → AnswersSome input old.out new.out old.report new.report
+stopped_between n r input ahead old new p =
+    if_some input (IsFront p.done) (λ bytes. Grown old.out new.out old.report new.report (Stopped (records bytes))) (λ bytes f. record {
+      more0 = outs p.replies;
+      more1 = reports p.replies;
+      out = p.in_out;
+      report = p.in_report;
+      holds = stopped_whole (records bytes) p.done f.rest p.replies f.is p.answers;
+    }) (front_taken input ahead p.done p.takes)
 
-test_is : (x : ℕ) → x ≡ 10 → (x == lf) ≡ true
-test_is x e = rw e refl
+-- within an answer
+pub stopped_within : (n m : ℕ) (r : Bool) (input ahead rest : Option (List ℕ)) (old mid new : Held) (text : Option (List ℕ)) (reply : Reply)
+    → Progress n r input ahead old mid → TakesRecords ahead rest (text ∷ []) → m ≡ n + 1 → IsAnswer m text reply → HoldsLess reply mid new
+    → AnswersSome input old.out new.out old.report new.report
+stopped_within n m r input ahead rest old mid new text reply p takes next answer held =
+    let done : List (Option (List ℕ)) = p.done ++ text ∷ [] in
+    let count = p.count in
+    let Numbered : ℕ → Type 0 = λ i. IsAnswer i text reply in
+    let place : m ≡ 1 + length p.done = omega arith in
+    let answers : Answers 1 done (p.replies ++ reply ∷ []) = answers_push 1 p.done p.replies text reply p.answers (subst Numbered place answer) in
+    let same = answers_count 1 p.done p.replies p.answers in
+    let more = length-append p.done (text ∷ []) in
+    let Of : List (Option (List ℕ)) → Type 0 = λ x. Answers 1 x (p.replies ++ reply ∷ []) in
+    if_some input (IsFront done) (λ bytes. Grown old.out new.out old.report new.report (Stopped (records bytes))) (λ bytes f. record {
+      more0 = outs p.replies ++ held.part0;
+      more1 = reports p.replies ++ held.part1;
+      out = Appends-trans old.out mid.out new.out (outs p.replies) held.part0 p.in_out held.in_out;
+      report = Appends-trans old.report mid.report new.report (reports p.replies) held.part1 p.in_report held.in_report;
+      holds = inr (record {
+        before = p.replies;
+        last = reply;
+        part0 = held.part0;
+        part1 = held.part1;
+        answers = subst Of (sym (ap (take (length p.replies + 1)) f.is ∙ take_front done f.rest (length p.replies + 1) (omega arith))) answers;
+        part = held.part;
+        out = refl;
+        report = refl;
+      });
+    }) (front_taken input rest done (takes_trans input ahead rest p.done (text ∷ []) p.takes takes))
 
-test_fails : (x : ℕ) → (x ≡ 10 → ⊥) → (x == lf) ≡ false
-test_fails x ne = grind (arith, nat_tests)
+-- less than all is held there
+pub less_within : (n m : ℕ) (r : Bool) (input ahead rest : Option (List ℕ)) (old mid new : Held) (text : Option (List ℕ)) (reply : Reply)
+    → Progress n r input ahead old mid → TakesRecords ahead rest (text ∷ []) → m ≡ n + 1 → IsAnswer m text reply → HoldsLess reply mid new
+    → AnswersLess input old.out new.out old.report new.report
+less_within n m r input ahead rest old mid new text reply p takes next answer held =
+    let done : List (Option (List ℕ)) = p.done ++ text ∷ [] in
+    let count = p.count in
+    let Numbered : ℕ → Type 0 = λ i. IsAnswer i text reply in
+    let place : m ≡ 1 + length p.done = omega arith in
+    let less = held.less in
+    let a = length-append (outs p.replies) held.part0 in
+    let b = length-append (reports p.replies) held.part1 in
+    if_some input (IsFront done) (λ bytes. Grown old.out new.out old.report new.report (IsLessThanWhole (records bytes))) (λ bytes f. record {
+      more0 = outs p.replies ++ held.part0;
+      more1 = reports p.replies ++ held.part1;
+      out = Appends-trans old.out mid.out new.out (outs p.replies) held.part0 p.in_out held.in_out;
+      report = Appends-trans old.report mid.report new.report (reports p.replies) held.part1 p.in_report held.in_report;
+      holds = λ all answers.
+          let joined : records bytes ≡ p.done ++ text ∷ f.rest = f.is ∙ append_assoc p.done (text ∷ []) f.rest in
+          let Of : List (Option (List ℕ)) → Type 0 = λ x. Answers 1 x all in
+          let whole = less_than_all 1 p.done text f.rest p.replies reply all (length held.part0 + length held.part1) p.answers (subst Numbered place answer) less (subst Of joined answers) in
+          omega arith;
+    }) (front_taken input rest done (takes_trans input ahead rest p.done (text ∷ []) p.takes takes))
 
-pub shorter : (text : List ℕ) → 0 < length text → get_or text (length text - 1) 0 ≡ 10 → take (length text - 1) text ≡ without_last_lf text
-shorter [] some last = absurd (omega arith)
-shorter (b ∷ bs) some last =
-    let P : ℕ → Type 0 = λ n. get_or (b ∷ bs) n 0 ≡ 10 in
-    let last' : get_or (b ∷ bs) (length bs) 0 ≡ 10 = subst P (less_one bs) last in
-    ap (λ n. take n (b ∷ bs)) (less_one bs) ∙ sym (last_lf b bs ∙ ap (λ h. if h then take (length bs) (b ∷ bs) else b ∷ bs) (test_is _ last'))
+-- ---- causes
 
-pub as_it_is : (text : List ℕ) → (length text ≡ 0) ⊎ (get_or text (length text - 1) 0 ≡ 10 → ⊥) → text ≡ without_last_lf text
-as_it_is [] h = refl
-as_it_is (b ∷ bs) (inl none) = absurd (omega arith)
-as_it_is (b ∷ bs) (inr other) =
-    let P : ℕ → Type 0 = λ n. get_or (b ∷ bs) n 0 ≡ 10 → ⊥ in
-    let other' : get_or (b ∷ bs) (length bs) 0 ≡ 10 → ⊥ = subst P (less_one bs) other in
-    sym (last_lf b bs ∙ ap (λ h. if h then take (length bs) (b ∷ bs) else b ∷ bs) (test_fails _ other'))
+pub read_stopped : (stop : ReadStop) (limit : ℕ) (new : LineReader) (start before after : Told) (a b : Held) → start.faults ≤ before.faults → HasEnded limit (Err stop) new before after
+    → HasStopped (halt_of stop) start after a b
+read_stopped ReadFault limit new start before after a b later h = (rose_later start.faults before.faults after.faults later h.1, h.2)
+read_stopped InputLimit limit new start before after a b later h = h.1
+read_stopped NoMemory limit new start before after a b later h = tt
 
-pub none_shown : (input : Option (List ℕ)) (text : List ℕ) (b : Bool) → IfSome input (λ all. text ≡ all) → b ≡ false → (IsTrue b ↔ SomeShown (records text)) → IfSome input (λ all. SomeShown (records all) → ⊥)
-none_shown None text b same off both = tt
-none_shown (Some all) text b same off both = λ shown.
-    let P : List ℕ → Type 0 = λ t. SomeShown (records t) in false≢true (sym off ∙ both.1 (subst P (sym same) shown))
+-- what was taken is what the reader counts
+pub taken_is : (reader : LineReader) (start now : Told) → Reading (fresh 0) reader start now → start.taken < 2 ^ 127 → now.taken ≡ start.taken + reader.taken
+taken_is reader start now h less =
+    let few = h.few (omega arith) in
+    let is : now.taken ≡ start.taken + (reader.taken - 0) = h.counted (omega arith) in omega arith
+
+abbrev stopped_by : Halt → Result Bool Halt
+stopped_by halt = Err halt
+
+-- how the reader and the source stand behind one more record
+pub record Stepped (limit : ℕ) (next : Result NextLine ReadStop) (new : LineReader) (start mid now : ℕ → Told) : Type 0 where
+  pub reading : Reading (fresh 0) new (start 0) (now 0)
+  pub ended : HasEnded limit next new (mid 0) (now 0)
+  pub others : SameBut 0 start now
+  pub input : new.input ≡ 0
+  pub taken : (now 0).taken ≡ (start 0).taken + new.taken
+
+pub stepped : (limit : ℕ) (next : Result NextLine ReadStop) (reader new : LineReader) (start mid now : ℕ → Told)
+    → reader.input ≡ 0 → (start 0).taken < 2 ^ 127 → Reading (fresh 0) reader (start 0) (mid 0) → SameBut 0 start mid
+    → Reading reader new (mid reader.input) (now reader.input) → HasEnded limit next new (mid reader.input) (now reader.input) → SameBut reader.input mid now
+    → Stepped limit next new start mid now
+stepped limit next reader new start mid now input few before kept step ended same =
+    let P : ℕ → Type 0 = λ i. Reading reader new (mid i) (now i) in
+    let Q : ℕ → Type 0 = λ i. HasEnded limit next new (mid i) (now i) in
+    let R : ℕ → Type 0 = λ i. SameBut i mid now in
+    let reading = reading_trans (fresh 0) reader new (start 0) (mid 0) (now 0) before (subst P input step) in record {
+      reading = reading;
+      ended = subst Q input ended;
+      others = same_but_trans 0 start mid now kept (subst R input same);
+      input = step.input ∙ input;
+      taken = taken_is new (start 0) (now 0) reading few;
+    }
+
+pub gives_at : (next : Result NextLine ReadStop) (reader new : LineReader) (before after : ℕ → Option (List ℕ)) → reader.input ≡ 0
+    → GivesRecord next (ahead reader (before reader.input)) (ahead new (after reader.input)) new.text → GivesRecord next (ahead reader (before 0)) (ahead new (after 0)) new.text
+gives_at next reader new before after input h =
+    let P : ℕ → Type 0 = λ i. GivesRecord next (ahead reader (before i)) (ahead new (after i)) new.text in subst P input h
+
+abbrev HitLimit : Halt → ℕ → ℕ → ℕ → Type 0
+HitLimit halt limit before after = (stopped_by halt ≡ stopped_by LimitHalt) ↔ (before + limit < after)
+
+pub limit_read : (stop : ReadStop) (limit : ℕ) (new : LineReader) (start before after : Told) → HasEnded limit (Err stop) new before after → after.taken ≡ start.taken + new.taken
+    → HitLimit (halt_of stop) limit start.taken after.taken
+limit_read ReadFault limit new start before after h is = let low = h.0 in (λ e. absurd cc, λ more. absurd (omega arith))
+limit_read InputLimit limit new start before after h is = let high = h.0 in (λ _. omega arith, λ _. refl)
+limit_read NoMemory limit new start before after h is = let low = h in (λ e. absurd cc, λ more. absurd (omega arith))
+
+pub limit_kept : {P : Type 0} (limit taken before after : ℕ) → (P → ⊥) → taken ≤ limit → after ≡ before + taken → P ↔ (before + limit < after)
+limit_kept limit taken before after other within is = (λ h. absurd (other h), λ more. absurd (omega arith))
+
+-- ---- less than all answers and all of them aren't held both
 
 same_growth : (old new : Option (List ℕ)) (before grown more : List ℕ) → old ≡ Some before → new ≡ Some (before ++ grown) → Appends old new more → length grown ≡ length more
 same_growth old new before grown more was is h =
@@ -144,15 +343,66 @@ same_growth old new before grown more was is h =
     let b = length-append before more in
     let c = ap (λ (x : List ℕ). length x) two in omega arith
 
--- less than all answers and all of them aren't held both
-pub not_all_held : (text : List ℕ) (input old0 new0 old1 new1 : Option (List ℕ)) → IfSome input (λ all. text ≡ all)
-    → Grown old0 new0 old1 new1 (IsLessThanWhole (records text)) → AllIsHeld input old0 new0 old1 new1 → ⊥
-not_all_held text input old0 new0 old1 new1 same less all =
-    let is : text ≡ all.bytes = subst (λ (o : Option (List ℕ)). IfSome o (λ x. text ≡ x)) all.input_is same in
+pub not_all_held : (input old0 new0 old1 new1 : Option (List ℕ)) → AnswersLess input old0 new0 old1 new1 → AllIsHeld input old0 new0 old1 new1 → ⊥
+not_all_held input old0 new0 old1 new1 some all =
     let w = all.whole in
-    let bound : length less.more0 + length less.more1 < length (outs w.replies) + length (reports w.replies) =
-    less.holds w.replies (subst (λ (x : List ℕ). Answers 1 (records x) w.replies) (sym is) w.answers) in
+    let less : Grown old0 new0 old1 new1 (IsLessThanWhole (records all.bytes)) = subst (λ (o : Option (List ℕ)). AnswersLess o old0 new0 old1 new1) all.input_is some in
+    let bound = less.holds w.replies w.answers in
     let a = same_growth old0 new0 all.before0 all.grown0 less.more0 all.old0_is all.new0_is less.out in
     let b = same_growth old1 new1 all.before1 all.grown1 less.more1 all.old1_is all.new1_is less.report in
     let c = ap (λ (x : List ℕ). length x) w.out in
     let d = ap (λ (x : List ℕ). length x) w.report in omega arith
+
+-- no stop but want of memory comes where all is held
+pub only_memory : (halt : Halt) (before after : Told) (old new : Held) → HasStopped halt before after old new → IsTrue after.ended
+    → AllIsHeld before.left old.out new.out old.report new.report → (status_of halt ≡ Done) ⊎ ((status_of halt ≡ SomeRefused) ⊎ (status_of halt ≡ Memory))
+only_memory ReadHalt before after old new h ended all = absurd (false≢true (sym h.1 ∙ ended))
+only_memory LimitHalt before after old new h ended all = absurd (false≢true (sym h ∙ ended))
+only_memory WriteHalt before after old new h ended all = absurd (not_all_held before.left old.out new.out old.report new.report h.1 all)
+only_memory MemoryHalt before after old new h ended all = inr (inr refl)
+
+pub none_shown : (input : Option (List ℕ)) → IfSome input (λ all. IsTrue false ↔ SomeShown (records all)) → IfSome input (λ all. SomeShown (records all) → ⊥)
+none_shown None h = tt
+none_shown (Some all) h = λ shown. false≢true (h.1 shown)
+
+pub some_shown : (input : Option (List ℕ)) → IfSome input (λ all. IsTrue true ↔ SomeShown (records all)) → IfSome input (λ all. SomeShown (records all))
+some_shown None h = tt
+some_shown (Some all) h = h.0 refl
+
+-- ---- the answer to one record
+
+pub nothing_held : (input : Option (List ℕ)) (held : Held) → AnswersSome input held.out held.out held.report held.report
+nothing_held input held = stopped_between 0 false input (prepend_known [] input) held held (begun input held)
+
+pub part_of_out : (reply : Reply) (old new : Held) → AppendsPart old.out new.out reply.out → new.report ≡ old.report → HoldsLess reply old new
+part_of_out reply old new (n, within, part) same =
+    let P : Option (List ℕ) → Type 0 = λ x. Appends old.report x [] in
+    let len : length (take n reply.out) ≡ n = length-take n reply.out ∙ omega arith in record {
+      part0 = take n reply.out;
+      part1 = [];
+      in_out = part;
+      in_report = subst P (sym same) (Appends-nil old.report);
+      part = inl ((drop n reply.out, sym (take-append-drop n reply.out)), refl);
+      less = omega arith;
+    }
+
+pub part_of_report : (reply : Reply) (old mid new : Held) → Appends old.out mid.out reply.out → new.out ≡ mid.out → mid.report ≡ old.report → AppendsPart mid.report new.report reply.report → HoldsLess reply old new
+part_of_report reply old mid new whole kept same (n, within, part) =
+    let P : Option (List ℕ) → Type 0 = λ x. Appends old.out x reply.out in
+    let Q : Option (List ℕ) → Type 0 = λ x. Appends x new.report (take n reply.report) in
+    let len : length (take n reply.report) ≡ n = length-take n reply.report ∙ omega arith in record {
+      part0 = reply.out;
+      part1 = take n reply.report;
+      in_out = subst P (sym kept) whole;
+      in_report = subst Q same part;
+      part = inr (refl, (drop n reply.report, sym (take-append-drop n reply.report)));
+      less = omega arith;
+    }
+
+pub all_of_both : (reply : Reply) (old mid new : Held) → Appends old.out mid.out reply.out → new.out ≡ mid.out → mid.report ≡ old.report → Appends mid.report new.report reply.report → Holds reply old new
+all_of_both reply old mid new whole kept same lines =
+    let P : Option (List ℕ) → Type 0 = λ x. Appends old.out x reply.out in
+    let Q : Option (List ℕ) → Type 0 = λ x. Appends x new.report reply.report in record {
+      in_out = subst P (sym kept) whole;
+      in_report = subst Q same lines;
+    }

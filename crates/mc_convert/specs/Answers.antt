@@ -1,7 +1,7 @@
 -- What a record is answered, and what a run writes (this project's own).
-use Rattle.std.specs.Prelude.{◌≡◌, ℕ, ◌+◌, ◌<◌, ◌⊎◌, false, List, [], ◌∷◌, ◌++◌, take, flat_map, length}
+use Rattle.std.specs.Prelude.{◌≡◌, ℕ, ◌+◌, ◌<◌, ◌⊎◌, List, [], ◌∷◌, ◌++◌, take, flat_map, length, Option, Some, None}
 use Rattle.mc_base.specs.declared.kind.Kind.{Kind}
-use Rattle.mc_base.specs.declared.kind.Kind.TheVariants.{NotBuilt}
+use Rattle.mc_base.specs.declared.kind.Kind.TheVariants.{LineTooLong}
 use Rattle.mc_base.specs.declared.refusal.Refusal.{Refusal}
 use Rattle.mc_base.specs.Shown.{IsFirst}
 use Rattle.mc_mol.specs.Molecule.{Molecule}
@@ -9,25 +9,25 @@ use Rattle.mc_mol.specs.Same.{Same}
 use Rattle.mc_report.specs.Report.{ok_line, refused_line}
 use Rattle.smi_graph.specs.Skeletons.{IsNoBarrier}
 use Rattle.smi_mean.specs.Lines.{text_of, name_of}
-use Rattle.smi_mean.specs.Meaning.{meaning}
 use Rattle.smi_mean.specs.Rules.{StandsAt, SmilesStands}
 use Rattle.smi_mean.specs.Written.{written_text, written_order}
-use Rattle.mc_convert.specs.Records.{is_line, records, with_name, line}
+use Rattle.mc_convert.specs.Records.{record_texts, with_name, line}
 
 -- what is written for a record: at output 0, and at output 1
 pub record Reply : Type 0 where
   pub out : List ℕ
   pub report : List ℕ
 
--- A kind stands at a place of a record. Records of more than one line, and too long ones, aren't read today.
-abbrev pub StandsIn : List ℕ → Kind → ℕ → Type 0
-StandsIn bytes NotBuilt place = (place ≡ 1) × ((is_line bytes ≡ false) ⊎ StandsAt (text_of bytes) NotBuilt 1)
-StandsIn bytes kind place = StandsAt (text_of bytes) kind place
+-- A kind stands at a place of a record: of its text, or of a line that is too long, which isn't read further.
+abbrev pub StandsIn : Option (List ℕ) → Kind → ℕ → Type 0
+StandsIn None LineTooLong place = place ≡ 1
+StandsIn None kind place = ⊥
+StandsIn (Some bytes) kind place = StandsAt (text_of bytes) kind place
 
--- a record stands for a molecule: no kind stands in it, and the molecule is that of its text
-pub record RecordStands (bytes : List ℕ) (m : Molecule) : Type 0 where
-  pub accepted : (kind : Kind) (place : ℕ) → StandsIn bytes kind place → ⊥
-  pub molecule : m ≡ meaning (text_of bytes)
+-- a record stands for what its text stands for
+abbrev pub RecordStands : Option (List ℕ) → Molecule → Type 0
+RecordStands None m = ⊥
+RecordStands (Some bytes) m = SmilesStands (text_of bytes) m
 
 -- the one form of a molecule, with the name of a record
 abbrev pub written_line : Molecule → List ℕ → List ℕ
@@ -38,9 +38,9 @@ written_line m bytes = with_name (written_text m) (name_of bytes)
 pub record IsWritten (k : ℕ) (bytes : List ℕ) (reply : Reply) : Type 0 where
   pub input : Molecule
   pub output : Molecule
-  pub stands : RecordStands bytes input
+  pub stands : RecordStands (Some bytes) input
   pub form : reply.out ≡ line (written_line input bytes)
-  pub one_record : records reply.out ≡ written_line input bytes ∷ []
+  pub one_record : record_texts reply.out ≡ written_line input bytes ∷ []
   pub name : name_of (written_line input bytes) ≡ name_of bytes
   pub reads : SmilesStands (text_of (written_line input bytes)) output
   pub only : (other : Molecule) → SmilesStands (text_of (written_line input bytes)) other → other ≡ output
@@ -48,21 +48,22 @@ pub record IsWritten (k : ℕ) (bytes : List ℕ) (reply : Reply) : Type 0 where
   pub report : reply.report ≡ ok_line k (written_order input) 0 0 0
 
 -- a record shows a refusal
-abbrev pub Shows : List ℕ → Refusal → Type 0
-Shows bytes refusal = IsFirst (StandsIn bytes) IsNoBarrier refusal
+abbrev pub Shows : Option (List ℕ) → Refusal → Type 0
+Shows text refusal = IsFirst (StandsIn text) IsNoBarrier refusal
 
 -- Record k is refused, for a cause that it shows.
-pub record IsRefusedFor (k : ℕ) (text : List ℕ) (reply : Reply) : Type 0 where
+pub record IsRefusedFor (k : ℕ) (text : Option (List ℕ)) (reply : Reply) : Type 0 where
   pub refusal : Refusal
   pub shows : Shows text refusal
   pub out : reply.out ≡ []
   pub report : reply.report ≡ refused_line k refusal
 
-abbrev pub IsAnswer : ℕ → List ℕ → Reply → Type 0
-IsAnswer k text reply = IsWritten k text reply ⊎ IsRefusedFor k text reply
+abbrev pub IsAnswer : ℕ → Option (List ℕ) → Reply → Type 0
+IsAnswer k None reply = IsRefusedFor k None reply
+IsAnswer k (Some bytes) reply = IsWritten k bytes reply ⊎ IsRefusedFor k (Some bytes) reply
 
 -- the answers to the records from number k on, in order, one for each
-abbrev pub Answers : ℕ → List (List ℕ) → List Reply → Type 0
+abbrev pub Answers : ℕ → List (Option (List ℕ)) → List Reply → Type 0
 Answers k [] [] = Unit {0}
 Answers k [] (reply ∷ replies) = ⊥
 Answers k (text ∷ texts) [] = ⊥
@@ -75,7 +76,7 @@ abbrev pub reports : List Reply → List ℕ
 reports replies = flat_map (λ reply. reply.report) replies
 
 -- The outputs have grown by all of the answers.
-pub record Whole (texts : List (List ℕ)) (grown0 grown1 : List ℕ) : Type 0 where
+pub record Whole (texts : List (Option (List ℕ))) (grown0 grown1 : List ℕ) : Type 0 where
   pub replies : List Reply
   pub answers : Answers 1 texts replies
   pub out : grown0 ≡ outs replies
@@ -89,7 +90,7 @@ abbrev pub IsPartOf : Reply → List ℕ → List ℕ → Type 0
 IsPartOf reply part0 part1 = (IsPrefix part0 reply.out × (part1 ≡ [])) ⊎ ((part0 ≡ reply.out) × IsPrefix part1 reply.report)
 
 -- The outputs have grown by the answers to the first records, and by a part of the answer to the last of these.
-pub record StoppedIn (texts : List (List ℕ)) (grown0 grown1 : List ℕ) : Type 0 where
+pub record StoppedIn (texts : List (Option (List ℕ))) (grown0 grown1 : List ℕ) : Type 0 where
   pub before : List Reply
   pub last : Reply
   pub part0 : List ℕ
@@ -100,10 +101,10 @@ pub record StoppedIn (texts : List (List ℕ)) (grown0 grown1 : List ℕ) : Type
   pub report : grown1 ≡ reports before ++ part1
 
 -- with no answer they haven't grown
-abbrev pub Stopped : List (List ℕ) → List ℕ → List ℕ → Type 0
+abbrev pub Stopped : List (Option (List ℕ)) → List ℕ → List ℕ → Type 0
 Stopped texts grown0 grown1 = ((grown0 ≡ []) × (grown1 ≡ [])) ⊎ StoppedIn texts grown0 grown1
 
 -- The outputs have grown by less than all of the answers.
-abbrev pub IsLessThanWhole : List (List ℕ) → List ℕ → List ℕ → Type 0
+abbrev pub IsLessThanWhole : List (Option (List ℕ)) → List ℕ → List ℕ → Type 0
 IsLessThanWhole texts grown0 grown1 =
     (replies : List Reply) → Answers 1 texts replies → length grown0 + length grown1 < length (outs replies) + length (reports replies)

@@ -1,5 +1,12 @@
 pub mod Records
+pub mod Readers
 pub mod Answers
 pub mod Runs
 pub mod Statuses
 pub mod Accepted
+pub mod Findings
+pub mod Checks
+pub mod CheckSteps
+pub mod CheckRuns
+pub mod LeftOver
+pub mod Words

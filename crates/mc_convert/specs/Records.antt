@@ -1,31 +1,23 @@
--- The one record of an input (this project's own): its bytes less one LF at their end, where there are any.
-use Rattle.std.specs.List.{list_all}
-use Rattle.std.specs.Prelude.{ℕ, Bool, not, ◌&&◌, ◌||◌, List, [], ◌∷◌, ◌++◌, if◌then◌else◌, ◌==◌, nat_le, length}
+-- The records of an input of lines (this project's own): its lines that aren't empty.
+use Rattle.std.specs.Prelude.{ℕ, Bool, true, false, List, [], ◌∷◌, ◌++◌, Option, Some, None, filter, map}
+use Rattle.mc_io.specs.Lines.{line_feed, pieces, text_of, lines_of}
 
-abbrev pub lf : ℕ
-lf = 10
+-- a line that is a record: any but an empty one; of a line that is too long there is no text
+abbrev pub is_record : Option (List ℕ) → Bool
+is_record None = true
+is_record (Some []) = false
+is_record (Some (b ∷ bs)) = true
 
--- a text without one LF at its end
-abbrev pub without_last_lf : List ℕ → List ℕ
-without_last_lf [] = []
-without_last_lf (b ∷ []) = if b == lf then [] else b ∷ []
-without_last_lf (b ∷ c ∷ bs) = b ∷ without_last_lf (c ∷ bs)
+abbrev pub records : List ℕ → List (Option (List ℕ))
+records bytes = filter is_record (lines_of bytes)
 
--- a record of no bytes is none
-abbrev pub unless_empty : List ℕ → List (List ℕ)
-unless_empty [] = []
-unless_empty (b ∷ bs) = (b ∷ bs) ∷ []
+abbrev pub is_some_text : List ℕ → Bool
+is_some_text [] = false
+is_some_text (b ∷ bs) = true
 
-abbrev pub records : List ℕ → List (List ℕ)
-records bytes = unless_empty (without_last_lf bytes)
-
--- a byte that ends a line: LF or CR
-abbrev pub ends_line : ℕ → Bool
-ends_line byte = byte == lf || byte == 13
-
--- one line, of at most so many bytes as a line may have
-abbrev pub is_line : List ℕ → Bool
-is_line bytes = list_all (λ byte. not (ends_line byte)) bytes && nat_le (length bytes) 1048576
+-- the texts of the records, whatever their length: a limit on it is a reader's
+abbrev pub record_texts : List ℕ → List (List ℕ)
+record_texts bytes = filter is_some_text (map text_of (pieces bytes))
 
 -- A text and a name as one line: a blank parts them, and stands also where both are empty.
 abbrev pub with_name : List ℕ → List ℕ → List ℕ
@@ -35,4 +27,4 @@ with_name (b ∷ bs) (c ∷ cs) = (b ∷ bs) ++ (32 ∷ c ∷ cs)
 
 -- a written record
 abbrev pub line : List ℕ → List ℕ
-line text = text ++ lf ∷ []
+line text = text ++ line_feed ∷ []

@@ -1,8 +1,8 @@
-ghost use Rattle.std.specs.Prelude.{◌≡◌, ◌<◌, ◌≤◌, ◌↔◌, [], IfOk, OnOk, IsTrue, length, not, true};
+ghost use Rattle.std.specs.Prelude.{◌≡◌, ◌<◌, ◌≤◌, ◌↔◌, [], None, Some, IfOk, OnOk, IsTrue, length, true};
 ghost use Rattle.mc_report.specs.Report.{refused_line};
-ghost use Rattle.std.specs.List.{list_all};
 ghost use Rattle.smi_mean.specs.Sound.{IsSound};
-ghost use Rattle.mc_convert.specs.Records.{ends_line, is_line, with_name};
+ghost use Rattle.mc_io.specs.Lines.{IsLineText, most_bytes};
+ghost use Rattle.mc_convert.specs.Records.{with_name};
 ghost use Rattle.mc_convert.specs.Answers.{IsAnswer};
 ghost use Rattle.mc_convert.specs.Accepted.{IsAccepted};
 ghost use Rattle.mc_convert.specs.Runs.{IsShown};
@@ -68,30 +68,18 @@ fn refused(alloc: Global, k: u64, refusal: &Refusal) -> Result<Answer, NoMemory>
     })
 }
 
-/// Whether these bytes are one line, and not too long.
-fn is_line(bytes: &[u8]) -> bool
-    ensures { result ≡ is_line bytes.now }
-{
-    has_no_line_end(bytes) && bytes.len() <= 1_048_576
-}
-
-fn has_no_line_end(bytes: &[u8]) -> bool
-    ensures { result ≡ list_all (λ byte. not (ends_line byte)) bytes.now }
-{
-    bytes.iter().all(|byte| !(*byte == b'\n' || *byte == b'\r'))
-}
-
-/// The answer to record k, from 1, which is one line.
-fn answer_line(alloc: Global, k: u64, line: &[u8]) -> Result<Answer, NoMemory>
+/// The answer to record k, from 1, which is a line.
+pub fn answer_record(alloc: Global, k: u64, bytes: &[u8]) -> Result<Answer, NoMemory>
     requires number { 1 ≤ k }
-    requires some { 0 < length line.now }
-    requires line { is_line line.now ≡ true }
-    ensures answer { IfOk result (λ r. IsAnswer k line.now record { out = r.out; report = r.report }) }
-    ensures refused { IfOk result (λ r. IsTrue r.refused ↔ IsShown line.now) }
+    requires some { 0 < length bytes.now }
+    requires short { length bytes.now ≤ most_bytes }
+    requires line { IsLineText bytes.now }
+    ensures answer { IfOk result (λ r. IsAnswer k (Some bytes.now) record { out = r.out; report = r.report }) }
+    ensures refused { IfOk result (λ r. IsTrue r.refused ↔ IsShown (Some bytes.now)) }
 {
-    match read_smiles(alloc, line) {
+    match read_smiles(alloc, bytes) {
         Ok(read) => {
-            let name = &line[read.name.from as usize..read.name.to as usize];
+            let name = &bytes[read.name.from as usize..read.name.to as usize];
             let answer = accepted(alloc, k, &read.mol, name)?;
             Ok(answer)
         }
@@ -103,18 +91,14 @@ fn answer_line(alloc: Global, k: u64, line: &[u8]) -> Result<Answer, NoMemory>
     }
 }
 
-/// The answer to record k, from 1.
-pub fn answer_record(alloc: Global, k: u64, bytes: &[u8]) -> Result<Answer, NoMemory>
+/// The answer to record k, from 1, which is a line that is too long. It isn't read further.
+#[tactic(auto, using(crate::proofs::Answering::long_refused, crate::proofs::Answering::long_is_shown))]
+pub fn answer_long(alloc: Global, k: u64) -> Result<Answer, NoMemory>
     requires number { 1 ≤ k }
-    requires some { 0 < length bytes.now }
-    ensures answer { IfOk result (λ r. IsAnswer k bytes.now record { out = r.out; report = r.report }) }
-    ensures refused { IfOk result (λ r. IsTrue r.refused ↔ IsShown bytes.now) }
+    ensures answer { IfOk result (λ r. IsAnswer k None record { out = r.out; report = r.report }) }
+    ensures refused { IfOk result (λ r. IsTrue r.refused ↔ IsShown None) }
 {
-    if is_line(bytes) {
-        let answer = answer_line(alloc, k, bytes)?;
-        return Ok(answer);
-    }
-    let refusal = Refusal::at(alloc, Kind::NotBuilt, 1);
+    let refusal = Refusal::at(alloc, Kind::LineTooLong, 1);
     let answer = refused(alloc, k, &refusal)?;
     Ok(answer)
 }

@@ -1,16 +1,32 @@
-//! The converter: records in, written records and report lines out.
+//! The converter: records in, written records and report lines out; and the checker of such reports.
 #![tactic(auto)]
 
 mod answer;
+mod check;
+mod check_readers;
 mod command;
+mod command_line;
+mod convert;
+mod finding;
+mod left_over;
+mod names;
+mod record_read;
+mod records;
 mod status;
-mod words;
 
 pub use answer::{Answer, answer_record};
 pub use command::run;
+pub use command_line::{Command, command_of};
+pub use names::{NameList, input_names};
 pub use status::Status;
 
 #[cfg(test)]
+mod check_tests;
+#[cfg(test)]
 mod rows;
 #[cfg(test)]
+mod several;
+#[cfg(test)]
 mod tests;
+#[cfg(test)]
+mod words_tests;

@@ -1,5 +1,7 @@
 ghost use Rattle.std.specs.Prelude.{◌≡◌};
-ghost use Rattle.mc_convert.specs.Statuses.{status_number};
+ghost use Rattle.mc_convert.specs.Statuses.{status_number, status_of};
+
+use mc_io::ReadStop;
 
 /// How a run ended.
 #[derive(Clone, Copy, Debug, PartialEq, Eq)]
@@ -26,5 +28,42 @@ impl Status {
         ensures { result ≡ status_number self }
     {
         self as u8
+    }
+}
+
+/// Why a run stopped before its end.
+#[derive(Clone, Copy, Debug, PartialEq, Eq)]
+pub enum Halt {
+    ReadFault,
+    InputLimit,
+    WriteFault,
+    NoMemory,
+}
+
+impl Halt {
+    pub fn status(self) -> Status
+        ensures { result ≡ status_of self }
+    {
+        match self {
+            Halt::ReadFault => Status::ReadFault,
+            Halt::InputLimit => Status::InputLimit,
+            Halt::WriteFault => Status::WriteFault,
+            Halt::NoMemory => Status::Memory,
+        }
+    }
+}
+
+impl From<ReadStop> for Halt {
+    ghost use Rattle.std.specs.Prelude.{◌≡◌};
+    ghost use Rattle.mc_convert.specs.Statuses.{halt_of};
+
+    ghost from_gives = { λ stop halt. halt ≡ halt_of stop };
+
+    fn from(stop: ReadStop) -> Halt {
+        match stop {
+            ReadStop::ReadFault => Halt::ReadFault,
+            ReadStop::InputLimit => Halt::InputLimit,
+            ReadStop::NoMemory => Halt::NoMemory,
+        }
     }
 }

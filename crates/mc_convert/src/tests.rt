@@ -1,4 +1,4 @@
-ghost use Rattle.std.specs.Prelude.{◌≡◌, ◌≤◌, IfOk};
+ghost use Rattle.std.specs.Prelude.{◌≡◌, ◌≤◌, ℕ, IfOk};
 ghost use Rattle.mc_io.specs.MemorySource.{taken};
 
 use crate::{Status, run};
@@ -7,9 +7,9 @@ use std::alloc::Global;
 use std::process::Abort;
 use std::test::Fail;
 
-const CONVERT: [&str; 5] = ["convert", "--from", "smi", "--to", "smi"];
+pub const CONVERT: [&str; 5] = ["convert", "--from", "smi", "--to", "smi"];
 
-fn words_of(alloc: Global, texts: &[&str]) -> Result<Vec<String>, Fail> {
+pub fn words_of(alloc: Global, texts: &[&str]) -> Result<Vec<String>, Fail> {
     let mut words = Vec::new(alloc);
     for text in texts {
         words.push(String::from_str(alloc, text)?)?;
@@ -17,14 +17,14 @@ fn words_of(alloc: Global, texts: &[&str]) -> Result<Vec<String>, Fail> {
     Ok(words)
 }
 
-fn source_of<const LIMIT: u64>(
+pub fn source_of<const LIMIT: u64>(
     alloc: Global,
     input: &[u8],
     piece: usize,
     fail: Vec<u64>,
 ) -> Result<MemorySource<LIMIT>, Fail>
     requires { 1 ≤ piece }
-    ensures { IfOk result (λ source. taken source 0 ≡ 0) }
+    ensures { IfOk result (λ source. (i : ℕ) → taken source i ≡ 0) }
 {
     let inputs = vec![in alloc; input.to_vec(alloc)?]?;
     Ok(MemorySource::new(inputs, piece, fail))
@@ -113,7 +113,10 @@ fn are_no_words(rt: &(impl Abort + AllocGlobal), texts: &[&str]) -> Result<(), F
 fn words_outside_the_table_do_nothing(rt: HostRuntime) -> Result<(), Fail> {
     are_no_words(&rt, &["convert", "--from", "smi"])?;
     are_no_words(&rt, &["convert", "--from", "smi", "--to", "sd"])?;
-    are_no_words(&rt, &["convert", "--from", "smi", "--to", "smi", "file"])?;
+    are_no_words(
+        &rt,
+        &["convert", "--from", "smi", "--to", "smi", "one", "two"],
+    )?;
     are_no_words(&rt, &["--help"])
 }
 

@@ -19,11 +19,12 @@ pub record LineReader : Type 0 where
   pub text : List ℕ
   pub answer : Option LineStep
 
--- it is new, or has passed a line
+-- it is new, has passed a line, or has met the end
 abbrev pub MayGoOn : Option LineStep → Type 0
 MayGoOn None = ⊤
 MayGoOn (Some Line) = ⊤
 MayGoOn (Some (TooLong k)) = ⊤
+MayGoOn (Some End) = ⊤
 MayGoOn (Some _) = ⊥
 
 -- the bytes that are still to be passed: those that it holds, once it has met the end; else with those that its input

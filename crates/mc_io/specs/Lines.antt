@@ -65,6 +65,11 @@ abbrev pub AreCut : List (List ℕ) → List ℕ → Type 0
 AreCut [] bytes = bytes ≡ []
 AreCut (piece ∷ later) bytes = (has_feed piece ≡ false) × (FeedBehind piece bytes (AreCut later) ⊎ IsLast piece bytes later)
 
+-- the text of a line: no line feed is in it, and no carriage return at its end
+pub record IsLineText (text : List ℕ) : Type 0 where
+  pub one : has_feed text ≡ false
+  pub ends : text_of text ≡ text
+
 -- a text, and the carriage returns behind it; the text itself ends with none
 pub record IsTextOf (piece text : List ℕ) : Type 0 where
   pub returns : ℕ

@@ -1,6 +1,6 @@
 -- What a read and a write do, beside the words of std for known bytes.
 use Rattle.std.specs.Prelude.{◌≡◌, ◌≢◌, ℕ, ◌+◌, ◌-◌, ◌^◌, ◌≤◌, ◌<◌, min, Bool, false, List, take, length, Option, Result, MatchResult, IfOk, IsTrue, ◌↔◌}
-use Rattle.std.specs.Io.KnownBytes.{Appends, Consumes}
+use Rattle.std.specs.Io.KnownBytes.{Appends}
 
 -- a count of 128 bits that stands still at its end
 abbrev pub counted : ℕ → ℕ → ℕ
@@ -17,11 +17,6 @@ EndsAt ended r = MatchResult r (λ n. IsTrue ended ↔ (n ≡ 0)) (λ _. ended �
 -- a meaning by number is the same but at one number
 abbrev pub SameBut : {A : Type 0} → ℕ → (ℕ → A) → (ℕ → A) → Type 0
 SameBut k old new = (i : ℕ) → i ≢ k → new i ≡ old i
-
--- a front of what is left was taken and counted
-abbrev pub TakesFront : Option (List ℕ) → Option (List ℕ) → ℕ → ℕ → Type 0
-TakesFront left_old left_new taken_old taken_new =
-    (front : List ℕ) × Consumes left_old left_new front × (taken_new ≡ taken_old + length front)
 
 -- a write took a part of the piece that isn't empty, or failed
 abbrev pub TakesSome : {E : Type 0} → Result ℕ E → List ℕ → Type 0

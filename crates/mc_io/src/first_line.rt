@@ -1,5 +1,5 @@
 ghost use Rattle.std.specs.Prelude.{◌≡◌, ◌<◌, ◌≤◌, ◌∷◌, length, take, drop, nat_lt, ◌&&◌, false};
-ghost use Rattle.mc_io.specs.Lines.{most_bytes, text_of, lines_of};
+ghost use Rattle.mc_io.specs.Lines.{IsLineText, most_bytes, text_of, lines_of};
 ghost use Rattle.mc_io.specs.Fronts.{piece_len, shown};
 
 /// The most bytes of a line, its carriage returns counted and its line feed not.
@@ -24,6 +24,7 @@ pub fn first_line(bytes: &[u8]) -> FirstLine
     ensures within { result.whole ≤ length bytes.now }
     ensures text { result.text ≤ result.whole }
     ensures short { result.is_long ≡ false → result.text ≤ most_bytes }
+    ensures one { result.is_long ≡ false → IsLineText (take result.text bytes.now) }
 {
     let end = piece_len(bytes);
     let text = text_len(&bytes[..end]);

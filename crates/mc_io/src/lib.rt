@@ -22,7 +22,7 @@ pub use memory_source::MemorySource;
 pub use reading::Source;
 pub use safe_sink::SafeSink;
 pub use safe_source::SafeSource;
-pub use whole::{ReadStop, read_all};
+pub use whole::ReadStop;
 pub use writing::{Sink, put_all};
 
 #[cfg(test)]

@@ -65,11 +65,11 @@ impl Model for Lines {
 }
 
 impl Lines {
-    ghost use Rattle.std.specs.Prelude.{◌↔◌, ◌+◌, ◌-◌, ◌<◌, ◌≤◌, ◌^◌, ◌⊎◌, [], false, IfOk, IsTrue, IsErr, None, Some, length};
+    ghost use Rattle.std.specs.Prelude.{◌↔◌, ◌+◌, ◌-◌, ◌<◌, ◌≤◌, ◌^◌, ◌⊎◌, [], false, true, IfOk, IsTrue, IsErr, None, Some, length};
     ghost use Rattle.std.specs.Io.KnownBytes.{Consumes};
     ghost use Rattle.mc_io.specs.Causes.{Rose};
     ghost use Rattle.mc_io.specs.Outside.{SameBut, counted};
-    ghost use Rattle.mc_io.specs.Lines.{most_bytes};
+    ghost use Rattle.mc_io.specs.Lines.{IsLineText, most_bytes};
     ghost use Rattle.mc_io.specs.LineReader.{MayGoOn, Gives, IsNoStop, ahead, lines_passed};
 
     /// A reader of an input, which has read nothing yet.
@@ -90,7 +90,7 @@ impl Lines {
         })
     }
 
-    /// Passes the next line.
+    /// Passes the next line. After the end it may be asked again.
     pub fn next<S: Source>(&mut self, source: &mut S) -> LineStep
         requires { MayGoOn self.old.answer }
 
@@ -99,6 +99,8 @@ impl Lines {
         ensures answer { self.new.answer ≡ Some result }
         ensures input { self.new.input ≡ self.old.input }
         ensures short { result ≡ LineStep.Line → length self.new.text ≤ most_bytes }
+        ensures text { result ≡ LineStep.Line → IsLineText self.new.text }
+        ensures few_lines { self.new.passed < 2 ^ 64 }
 
         // What was taken of the input is counted.
         ensures bytes { (front : List ℕ) × Consumes (S.left source.old self.old.input) (S.left source.new self.old.input) front
@@ -142,9 +144,11 @@ impl Lines {
 
     /// Passes the next line of the bytes that were read, and notes the answer.
     fn give(&mut self) -> LineStep
+        requires { self.old.ended ≡ true }
         ensures step { Gives result (Some self.old.held) (Some self.new.held) self.new.text self.new.passed }
         ensures passed { self.new.passed ≡ self.old.passed + lines_passed result }
         ensures short { result ≡ LineStep.Line → length self.new.text ≤ most_bytes }
+        ensures text { result ≡ LineStep.Line → IsLineText self.new.text }
         ensures goes_on { IsNoStop result }
         ensures kept { self.new ≡ record self.old { held = self.new.held; passed = self.new.passed; text = self.new.text; answer = Some result } }
     {
@@ -158,6 +162,7 @@ impl Lines {
         ensures step { Gives result (Some self.old.held) (Some self.new.held) self.new.text self.new.passed }
         ensures passed { self.new.passed ≡ self.old.passed + lines_passed result }
         ensures short { result ≡ LineStep.Line → length self.new.text ≤ most_bytes }
+        ensures text { result ≡ LineStep.Line → IsLineText self.new.text }
         ensures goes_on { IsNoStop result }
         ensures kept { self.new ≡ record self.old { held = self.new.held; passed = self.new.passed; text = self.new.text } }
     {

@@ -1,4 +1,5 @@
 use super::*;
+use crate::whole::read_whole;
 use std::alloc::Global;
 use std::test::Fail;
 
@@ -13,10 +14,18 @@ fn every_cut_gives_the_same_bytes(rt: HostRuntime) -> Result<(), Fail> {
     let alloc = rt.alloc();
     for piece in 1..14 {
         let mut source = MemorySource::<12>::new(inputs(alloc)?, piece, Vec::new(alloc));
-        let bytes = read_all(alloc, &mut source, 0)?;
-        assert_eq!(rt; bytes.as_slice(), INPUT.as_slice(), "read by {piece}");
+        let reading = read_whole(alloc, &mut source, 0);
+        assert_eq!(rt; reading.end, Ok(()), "read by {piece}");
+        assert_eq!(rt;
+            reading.bytes.as_slice(),
+            INPUT.as_slice(),
+            "read by {piece}"
+        );
         let mut sink = MemorySink::new(alloc, 20, piece, Vec::new(alloc))?;
-        assert!(rt; put_all(&mut sink, 1, &bytes).is_ok(), "written by {piece}");
+        assert!(rt;
+            put_all(&mut sink, 1, &reading.bytes).is_ok(),
+            "written by {piece}"
+        );
         assert_eq!(rt; sink.bytes(1), INPUT.as_slice(), "written by {piece}");
         assert_eq!(rt; sink.bytes(0), [].as_slice());
     }
@@ -30,7 +39,7 @@ fn a_read_fails_at_its_call(rt: HostRuntime) -> Result<(), Fail> {
     for call in 1..6u64 {
         let fail = vec![in alloc; call]?;
         let mut source = MemorySource::<12>::new(inputs(alloc)?, 5, fail);
-        let stop = read_all(alloc, &mut source, 0).err();
+        let stop = read_whole(alloc, &mut source, 0).end.err();
         let want = if call < 5 {
             Some(ReadStop::ReadFault)
         } else {
@@ -57,7 +66,7 @@ fn a_write_fails_at_its_call(rt: HostRuntime) -> Result<(), Fail> {
 fn an_input_stops_at_the_limit(rt: HostRuntime) -> Result<(), Fail> {
     let alloc = rt.alloc();
     let mut source = MemorySource::<11>::new(inputs(alloc)?, 4, Vec::new(alloc));
-    let stop = read_all(alloc, &mut source, 0).err();
+    let stop = read_whole(alloc, &mut source, 0).end.err();
     assert_eq!(rt; stop, Some(ReadStop::InputLimit));
     Ok(())
 }
@@ -75,10 +84,11 @@ fn a_sink_takes_what_it_has_room_for(rt: HostRuntime) -> Result<(), Fail> {
 fn safe_objects_never_fail(rt: HostRuntime) -> Result<(), Fail> {
     let alloc = rt.alloc();
     let mut source = SafeSource::<12>::new(inputs(alloc)?, 5);
-    let bytes = read_all(alloc, &mut source, 0)?;
-    assert_eq!(rt; bytes.as_slice(), INPUT.as_slice());
-    let past = read_all(alloc, &mut source, 1)?;
-    assert!(rt; past.is_empty());
-    assert!(rt; put_all(&mut SafeSink::new(), 0, &bytes).is_ok());
+    let reading = read_whole(alloc, &mut source, 0);
+    assert_eq!(rt; reading.end, Ok(()));
+    assert_eq!(rt; reading.bytes.as_slice(), INPUT.as_slice());
+    let past = read_whole(alloc, &mut source, 1);
+    assert!(rt; past.bytes.is_empty());
+    assert!(rt; put_all(&mut SafeSink::new(), 0, &reading.bytes).is_ok());
     Ok(())
 }

@@ -6,3 +6,4 @@ pub mod Labels
 pub mod OkLines
 pub mod RefusedLines
 pub mod ReportLines
+pub mod SpelledOnce

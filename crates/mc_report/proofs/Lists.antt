@@ -247,3 +247,51 @@ empty_found text stops = λ others tail. ((λ e. at_pair (λ x y. IsList x y tex
     only (a ∷ more) tail list =
         let goes : goes_on text ≡ true = ap goes_on list.joined ∙ list_goes_on a more tail (head_at a more list.in_range) in
         cc
+
+-- ---- one list
+
+commas_same : (a b : List ℕ) → ◌≡◌ {A = List ℕ} (44 ∷ a) (44 ∷ b) → a ≡ b
+commas_same a b e = cc
+
+first_same : (x y : AtomId) (xs ys : List AtomId) (t u text : List ℕ) → IsList (x ∷ xs) t text → IsList (y ∷ ys) u text
+    → (x ≡ y) × (later_numbers xs ++ t ≡ later_numbers ys ++ u)
+first_same x y xs ys t u text is also =
+    let first = at_first x xs t text is.joined (head_at x xs is.in_range) is.stops in
+    let other = at_first y ys u text also.joined (head_at y ys also.in_range) also.stops in
+    same_pair x y (later_numbers xs ++ t) (later_numbers ys ++ u) (sym first ∙ other)
+
+-- a text begins with one list of atoms
+pub list_once : (xs ys : List AtomId) (t u text : List ℕ) → IsList xs t text → IsList ys u text → (xs ≡ ys) × (t ≡ u)
+list_once [] [] t u text is also = (refl, sym is.joined ∙ also.joined)
+list_once [] (y ∷ ys) t u text is also =
+    let goes : goes_on text ≡ true = ap goes_on also.joined ∙ list_goes_on y ys u (head_at y ys also.in_range) in
+    let stops : goes_on text ≡ false = ap goes_on is.joined ∙ is.stops in
+    cc
+list_once (x ∷ xs) [] t u text is also =
+    let goes : goes_on text ≡ true = ap goes_on is.joined ∙ list_goes_on x xs t (head_at x xs is.in_range) in
+    let stops : goes_on text ≡ false = ap goes_on also.joined ∙ also.stops in
+    cc
+list_once (x ∷ []) (y ∷ []) t u text is also = let same = first_same x y [] [] t u text is also in (ap (λ a. a ∷ []) same.0, same.1)
+list_once (x ∷ []) (y ∷ b ∷ ys) t u text is also =
+    let same = first_same x y [] (b ∷ ys) t u text is also in
+    let goes : goes_on t ≡ true = ap goes_on same.1 in
+    let stops : goes_on t ≡ false = is.stops in
+    cc
+list_once (x ∷ a ∷ xs) (y ∷ []) t u text is also =
+    let same = first_same x y (a ∷ xs) [] t u text is also in
+    let goes : goes_on u ≡ true = ap goes_on (sym same.1) in
+    let stops : goes_on u ≡ false = also.stops in
+    cc
+list_once (x ∷ a ∷ xs) (y ∷ b ∷ ys) t u text is also =
+    let same = first_same x y (a ∷ xs) (b ∷ ys) t u text is also in
+    let rest = list_once (a ∷ xs) (b ∷ ys) t u (numbers (a ∷ xs) ++ t)
+    (record { joined = refl; in_range = tail_at x (a ∷ xs) is.in_range; stops = is.stops })
+    (record { joined = commas_same (numbers (a ∷ xs) ++ t) (numbers (b ∷ ys) ++ u) same.1; in_range = tail_at y (b ∷ ys) also.in_range; stops = also.stops }) in
+    (ap (λ z. z ∷ a ∷ xs) same.0 ∙ ap (λ zs. y ∷ zs) rest.0, rest.1)
+
+-- the list at the front is the one that is found
+pub list_exact : (text : List ℕ) (atoms : List AtomId) (tail : List ℕ) → IsList atoms tail text → FindsList text (Some (atoms, tail))
+list_exact text atoms tail here = λ others rest. (
+  (λ e. at_pair (λ x y. IsList x y text) atoms others tail rest here e),
+  (λ list. let same = list_once atoms others tail rest text here list in ap (λ x. Some (x, tail)) same.0 ∙ ap (λ y. Some (others, y)) same.1),
+)

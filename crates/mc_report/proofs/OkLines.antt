@@ -9,7 +9,7 @@ use Rattle.mc_report.specs.Behind.{FindsLine, OkBehind, AreCounts, ok_of, ends, 
 use Rattle.mc_report.proofs.Numbers.{same_pair, choose_then}
 use Rattle.mc_report.proofs.Labels.{counts_read, counts_found}
 
-list_there : (k : ℕ) (line : ReportLine) (text : List ℕ) (b : OkBehind k line text) → IsList b.map b.rest text
+pub list_there : (k : ℕ) (line : ReportLine) (text : List ℕ) (b : OkBehind k line text) → IsList b.map b.rest text
 list_there k line text b = record { joined = b.joined; in_range = b.atoms; stops = ap goes_on b.counts.joined }
 
 pub ok_exact : (k : ℕ) (text : List ℕ) (found : Option (List AtomId × List ℕ)) → FindsList text found → FindsLine (λ line. OkBehind k line text) (ok_of k found)

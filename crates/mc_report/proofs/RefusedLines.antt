@@ -82,6 +82,10 @@ kind_some text kind rest name behind = λ other tail. (
       stops = ap ends_name behind ∙ stops_there text;
     }
 
+-- a kind's name at the front is the one that is found
+pub kind_exact : (text : List ℕ) (kind : Kind) (rest : List ℕ) → IsKind kind rest text → FindsKind text (Some (kind, rest))
+kind_exact text kind rest is = let there = cut_kind kind rest text is in kind_some text kind rest (sym there.name) (sym there.behind)
+
 -- ---- a place
 
 plain_reason : (kind : Kind) (place : ℕ) (barrier : List AtomId) (odd : ℕ) → (kind ≡ NoPlacement → ⊥) → reason kind place barrier odd ≡ codes " place=" ++ decimal place
@@ -100,7 +104,7 @@ reason_begins : (kind : Kind) (place : ℕ) (barrier : List AtomId) (odd : ℕ) 
 reason_begins NoPlacement place barrier odd = refl
 reason_begins _ place barrier odd = refl
 
-kind_there : (k : ℕ) (line : ReportLine) (text : List ℕ) (b : RefusedBehind k line text) → IsKind b.refusal.kind (reason b.refusal.kind b.refusal.place b.refusal.barrier b.refusal.odd) text
+pub kind_there : (k : ℕ) (line : ReportLine) (text : List ℕ) (b : RefusedBehind k line text) → IsKind b.refusal.kind (reason b.refusal.kind b.refusal.place b.refusal.barrier b.refusal.odd) text
 kind_there k line text b = record { joined = b.joined; stops = reason_begins b.refusal.kind b.refusal.place b.refusal.barrier b.refusal.odd }
 
 pub place_exact : (k : ℕ) (text : List ℕ) (kind : Kind) (rest : List ℕ) → FindsKind text (Some (kind, rest)) → (kind ≡ NoPlacement → ⊥)
@@ -144,7 +148,7 @@ place_exact k text kind rest finds other = λ line. (
 
 -- ---- a barrier
 
-barrier_list : (k : ℕ) (line : ReportLine) (text rest : List ℕ) (b : BarrierBehind k line text) → text ≡ codes " barrier=" ++ rest
+pub barrier_list : (k : ℕ) (line : ReportLine) (text rest : List ℕ) (b : BarrierBehind k line text) → text ≡ codes " barrier=" ++ rest
     → IsList b.barrier (codes " odd=" ++ decimal b.odd) rest
 barrier_list k line text rest b is =
     let read : Some rest ≡ Some (numbers b.barrier ++ (codes " odd=" ++ decimal b.odd)) =
@@ -202,16 +206,32 @@ barrier_none k text word = λ line. (
 regroup : (a b c d : List ℕ) → ((a ++ b) ++ c) ++ d ≡ a ++ (b ++ (c ++ d))
 regroup a b c d = simp append_assoc
 
-barrier_parts : (kind : Kind) (place : ℕ) (barrier : List AtomId) (odd : ℕ) → NoPlacement ≡ kind → HasReason kind place barrier odd
+pub barrier_parts : (kind : Kind) (place : ℕ) (barrier : List AtomId) (odd : ℕ) → NoPlacement ≡ kind → HasReason kind place barrier odd
     → (place ≡ 0) × AreAtoms barrier × IsTrue (is_increasing barrier) × (odd < 2 ^ 32)
 barrier_parts NoPlacement place barrier odd same has = has
 barrier_parts _ place barrier odd same has = cc
+
+-- what is said of NoPlacement is a barrier
+pub barrier_said : (k : ℕ) (text rest : List ℕ) (line : ReportLine) (b : RefusedBehind k line text)
+    → (NoPlacement ≡ b.refusal.kind) × (rest ≡ reason b.refusal.kind b.refusal.place b.refusal.barrier b.refusal.odd) → BarrierBehind k line rest
+barrier_said k text rest line b same =
+    let refusal = b.refusal in
+    let parts = barrier_parts b.refusal.kind b.refusal.place b.refusal.barrier b.refusal.odd same.0 b.fits in
+    record {
+      barrier = b.refusal.barrier;
+      odd = b.refusal.odd;
+      is = b.is ∙ ap (λ r. RefusedLine k r) (ap (λ x. made x b.refusal.place b.refusal.barrier b.refusal.odd) (sym same.0) ∙ ap (λ x. made NoPlacement x b.refusal.barrier b.refusal.odd) parts.0);
+      atoms = parts.1;
+      increasing = parts.2;
+      odd_fits = parts.3;
+      joined = same.1 ∙ ap (λ x. reason x b.refusal.place b.refusal.barrier b.refusal.odd) (sym same.0) ∙ regroup (codes " barrier=") (numbers b.refusal.barrier) (codes " odd=") (decimal b.refusal.odd);
+    }
 
 pub refused_barrier : (k : ℕ) (text rest : List ℕ) (answer : Option ReportLine) → FindsKind text (Some (NoPlacement, rest)) → FindsLine (λ line. BarrierBehind k line rest) answer
     → FindsLine (λ line. RefusedBehind k line text) answer
 refused_barrier k text rest answer kinds finds = λ line. (
   (λ e. with_kind line ((finds line).0 e)),
-  (λ b. let there = (kinds b.refusal.kind _).1 (kind_there k line text b) in (finds line).1 (without line b (same_pair NoPlacement b.refusal.kind rest _ there))),
+  (λ b. let there = (kinds b.refusal.kind _).1 (kind_there k line text b) in (finds line).1 (barrier_said k text rest line b (same_pair NoPlacement b.refusal.kind rest _ there))),
 )
   where
     with_kind : (line : ReportLine) → BarrierBehind k line rest → RefusedBehind k line text
@@ -222,21 +242,6 @@ refused_barrier k text rest answer kinds finds = λ line. (
           is = b.is;
           fits = (refl, b.atoms, b.increasing, b.odd_fits);
           joined = here.joined ∙ ap (λ t. kind_name NoPlacement ++ t) (b.joined ∙ sym (regroup (codes " barrier=") (numbers b.barrier) (codes " odd=") (decimal b.odd)));
-        }
-
-    without : (line : ReportLine) (b : RefusedBehind k line text) → (NoPlacement ≡ b.refusal.kind) × (rest ≡ reason b.refusal.kind b.refusal.place b.refusal.barrier b.refusal.odd)
-        → BarrierBehind k line rest
-    without line b same =
-        let refusal = b.refusal in
-        let parts = barrier_parts b.refusal.kind b.refusal.place b.refusal.barrier b.refusal.odd same.0 b.fits in
-        record {
-          barrier = b.refusal.barrier;
-          odd = b.refusal.odd;
-          is = b.is ∙ ap (λ r. RefusedLine k r) (ap (λ x. made x b.refusal.place b.refusal.barrier b.refusal.odd) (sym same.0) ∙ ap (λ x. made NoPlacement x b.refusal.barrier b.refusal.odd) parts.0);
-          atoms = parts.1;
-          increasing = parts.2;
-          odd_fits = parts.3;
-          joined = same.1 ∙ ap (λ x. reason x b.refusal.place b.refusal.barrier b.refusal.odd) (sym same.0) ∙ regroup (codes " barrier=") (numbers b.refusal.barrier) (codes " odd=") (decimal b.refusal.odd);
         }
 
 pub refused_none : (k : ℕ) (text : List ℕ) → FindsKind text None → FindsLine (λ line. RefusedBehind k line text) None

@@ -63,7 +63,7 @@ neither_found k text ok refused = λ line. ((λ e. cc), (λ b. absurd (there lin
 
 -- ---- with the number
 
-abbrev most : ℕ
+abbrev pub most : ℕ
 most = 18446744073709551615
 
 regroup_ok : (a b c d e f g h : List ℕ) → ((((((a ++ b) ++ c) ++ d) ++ e) ++ f) ++ g) ++ h ≡ a ++ (b ++ (c ++ (d ++ (e ++ (f ++ (g ++ h))))))
@@ -86,17 +86,17 @@ refused_parts : (k : ℕ) (refusal : Refusal) → refused_text k refusal
 refused_parts k refusal = regroup_refused (decimal k) (codes " refused ") (kind_name refusal.kind) (reason refusal.kind refusal.place refusal.barrier refusal.odd)
 
 -- the number of a line, and what it says behind it
-record Parts (line : List ℕ) (read : ReportLine) : Type 0 where
-  k : ℕ
-  rest : List ℕ
-  number : IsRecordNumber k
-  is_number : IsNumber most k rest line
-  behind : BehindNumber k rest read
+pub record Parts (line : List ℕ) (read : ReportLine) : Type 0 where
+  pub k : ℕ
+  pub rest : List ℕ
+  pub number : IsRecordNumber k
+  pub is_number : IsNumber most k rest line
+  pub behind : BehindNumber k rest read
 
 fits_most : (k : ℕ) → k < 2 ^ 64 → k ≤ most
 fits_most k small = omega arith
 
-parts_of : (line : List ℕ) (read : ReportLine) → Spells read line → Parts line read
+pub parts_of : (line : List ℕ) (read : ReportLine) → Spells read line → Parts line read
 parts_of line (OkLine k map) s = record {
   k = k;
   rest = _;
@@ -145,7 +145,7 @@ spells_of line k rest read number is (inr b) =
       written = is ∙ ap (λ t. decimal k ++ t) (b.joined ∙ ap (λ t. codes " refused " ++ t) b.is.joined) ∙ sym (refused_parts k b.is.refusal);
     })
 
-fits : most < 2 ^ 64
+pub fits : most < 2 ^ 64
 fits = omega arith
 
 pub line_found : (line : List ℕ) (k : ℕ) (rest : List ℕ) (answer : Option ReportLine) → number_front 18446744073709551615 line ≡ Some (k, rest) → 1 ≤ k → FindsLine (BehindNumber k rest) answer

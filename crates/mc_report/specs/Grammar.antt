@@ -52,3 +52,8 @@ pub record SpellsRefused (k : ℕ) (refusal : Refusal) (line : List ℕ) : Type 
 abbrev pub Spells : ReportLine → List ℕ → Type 0
 Spells (OkLine k map) line = SpellsOk k map line
 Spells (RefusedLine k refusal) line = SpellsRefused k refusal line
+
+-- the number of the record of which a line speaks
+abbrev pub number_of : ReportLine → ℕ
+number_of (OkLine k map) = k
+number_of (RefusedLine k refusal) = k

@@ -174,12 +174,14 @@ fn increases_from(first: AtomId, others: &[AtomId]) -> bool
     true
 }
 
-/// What is written is read back: the text of a line, which stands before its end, says what was put.
+/// What is written is read back: the text of a line, which stands before its end, says what was put, and
+/// nothing else.
 pub fn read_back_law()
     ensures ok { (k idle ring lines : ℕ) (map : List Atom) → IsRecordNumber k → AreAtoms map →
         idle < 2 ^ 32 → ring < 2 ^ 32 → lines < 2 ^ 32 → Spells (OkLine k map) (ok_text k map idle ring lines) }
     ensures refused { (k : ℕ) (refusal : RefusalValue) → IsRecordNumber k →
         HasReason refusal.kind refusal.place refusal.barrier refusal.odd → Spells (RefusedLine k refusal) (refused_text k refusal) }
+    ensures once { (read other : Line) (line : List ℕ) → Spells read line → Spells other line → read ≡ other }
 {}
 
 #[cfg(test)]

@@ -1,4 +1,7 @@
-ghost use Rattle.std.specs.Prelude.{◌≡◌, ◌↔◌, IfOk};
+ghost use Rattle.std.specs.Prelude.{◌≡◌, ◌↔◌, List, IfOk};
+ghost use Rattle.mc_base.specs.declared.ids.AtomId.{AtomId as Entry};
+ghost use Rattle.mc_base.specs.declared.verdict.Verdict.{Verdict as Finding};
+ghost use Rattle.mc_mol.specs.Molecule.{Molecule as Graph};
 ghost use Rattle.mc_mol.specs.Same.{Same};
 ghost use Rattle.mc_mol.specs.WellFormed.{IsMolecule};
 ghost use Rattle.mc_same.specs.Differences.{IsVerdict, SameGraph, SameMap};
@@ -25,6 +28,11 @@ pub fn check_map(
     let verdict = first_difference(alloc, input, output, map)?;
     Ok(verdict)
 }
+
+/// A verdict says all there is to say: at most one is right of two molecules and a map.
+pub fn verdict_law()
+    ensures { (m n : Graph) (f : List Entry) (v w : Finding) → IsVerdict m n f v → IsVerdict m n f w → v ≡ w }
+{}
 
 fn first_difference(
     alloc: Global,

@@ -9,4 +9,4 @@ mod check;
 mod even;
 mod sides;
 
-pub use check::check_map;
+pub use check::{check_map, verdict_law};

@@ -1,12 +1,21 @@
+ghost use Rattle.std.specs.Prelude.{◌≡◌, ◌≢◌, ◌⊎◌, ◌≤◌, [], Ok, length, slice_get};
+ghost use Rattle.std.specs.Io.{ReadsAtMost};
+ghost use Rattle.std.specs.Io.KnownBytes.{ReadConsumes};
+ghost use Rattle.mc_io.specs.Outside.{SameBut};
+ghost use Rattle.molconv.specs.Inputs.{ReadsFile};
+
 use crate::reads::Reads;
 use mc_base::Failed;
 use mc_io::Source;
+use std::io;
 use std::io::Read;
 
-/// Standard input as input 0. Any other input has nothing left. It doesn't tell what is left.
+/// The named files as inputs, in order, or standard input as input 0 where no file is named. Any other input has
+/// nothing left. It doesn't tell what is left.
 #[derive(Drop)]
-pub struct FileSource<R: Read> {
+pub struct FileSource<R: Read, N: Read + Drop> {
     standard_input: R,
+    files: Vec<N>,
     inputs: [Reads; 3],
 }
 
@@ -16,28 +25,30 @@ const UNREAD: Reads = Reads {
     faults: 0,
 };
 
-impl<R: Read> FileSource<R> {
+impl<R: Read, N: Read + Drop> FileSource<R, N> {
     ghost use Rattle.std.specs.Prelude.{ℕ, ◌≡◌};
     ghost use Rattle.molconv.specs.Inputs.{unread, reads_at};
 
     /// No input has been read.
-    pub fn new(standard_input: R) -> FileSource<R>
-        ensures { (i : ℕ) → reads_at result.inputs i ≡ unread }
+    pub fn new(standard_input: R, files: Vec<N>) -> FileSource<R, N>
+        ensures reads { (i : ℕ) → reads_at result.inputs i ≡ unread }
+        ensures streams { (result.standard_input ≡ standard_input) × (result.files ≡ files) }
     {
         FileSource {
             standard_input,
+            files,
             inputs: [UNREAD, UNREAD, UNREAD],
         }
     }
 }
 
-impl<R: Read> Source for FileSource<R> {
-    ghost use Rattle.std.specs.Prelude.{ℕ, ◌≡◌, ◌≢◌, ◌<◌, ◌^◌, None, is_err, if◌then◌else◌, length};
+impl<R: Read, N: Read + Drop> Source for FileSource<R, N> {
+    ghost use Rattle.std.specs.Prelude.{ℕ, ◌≡◌, ◌≢◌, ◌⊎◌, ◌<◌, ◌≤◌, ◌^◌, [], None, Ok, is_err, if◌then◌else◌, length, slice_get};
     ghost use Rattle.std.specs.Io.{ReadsAtMost};
     ghost use Rattle.std.specs.Io.KnownBytes.{ReadConsumes};
     ghost use Rattle.mc_io.specs.Causes.{HasCause, one_more};
     ghost use Rattle.mc_io.specs.Outside.{Counts, EndsAt, SameBut};
-    ghost use Rattle.molconv.specs.Inputs.{faults_of, taken_of, ended_of};
+    ghost use Rattle.molconv.specs.Inputs.{faults_of, taken_of, ended_of, ReadsFile};
 
     ghost LIMIT = { 2 ^ 40 };
 
@@ -63,20 +74,26 @@ impl<R: Read> Source for FileSource<R> {
         ensures taken_others { SameBut input (taken_of self.old.inputs) (taken_of self.new.inputs) }
         ensures ended_others { SameBut input (ended_of self.old.inputs) (ended_of self.new.inputs) }
 
-        // Input 0 takes from standard input what the read gives, and no other input touches it.
-        ensures taken_there { input ≡ 0 → ReadConsumes (R.remaining self.old.standard_input) (R.remaining self.new.standard_input) result into.new }
-        ensures kept_there { input ≢ 0 → self.new.standard_input ≡ self.old.standard_input }
+        // An input with a name takes what its own file gives, and touches no other.
+        ensures named { ReadsFile N.remaining self.old.files.items self.new.files.items input result into.new }
+        ensures files_others { SameBut input (slice_get self.old.files.items) (slice_get self.new.files.items) }
+
+        // Standard input is input 0 exactly where no file is named; what is neither has nothing left.
+        ensures standard { self.old.files.items ≡ [] → input ≡ 0 →
+            ReadConsumes (R.remaining self.old.standard_input) (R.remaining self.new.standard_input) result into.new }
+        ensures standard_kept { (self.old.files.items ≢ []) ⊎ (input ≢ 0) → self.new.standard_input ≡ self.old.standard_input }
+        ensures other { length self.old.files.items ≤ input → input ≢ 0 → result ≡ Ok 0 }
 
         // Each failure counts, and nothing else does.
         ensures fault { faults_of self.new.inputs input
             ≡ (if is_err result then one_more (faults_of self.old.inputs input) else faults_of self.old.inputs input) }
-        ensures other { input ≢ 0 → result ≡ Ok 0 }
     {
-        let read = if input == 0 {
-            self.standard_input.read(into)
-        } else {
-            Ok(0)
-        };
+        let read = read_stream(
+            &mut self.standard_input,
+            &mut self.files,
+            input as usize,
+            into,
+        );
         let reads = &mut self.inputs[input as usize];
         match read {
             Ok(count) => {
@@ -90,5 +107,30 @@ impl<R: Read> Source for FileSource<R> {
                 Err(Failed)
             }
         }
+    }
+}
+
+/// Reads from the stream of an input.
+fn read_stream<R: Read, N: Read + Drop>(
+    standard_input: &mut R,
+    files: &mut [N],
+    input: usize,
+    into: &mut [u8],
+) -> io::Result<usize>
+    ensures bound { ReadsAtMost result into.new }
+    ensures named { ReadsFile N.remaining files.old files.new input result into.new }
+    ensures files_others { SameBut input (slice_get files.old) (slice_get files.new) }
+    ensures standard { files.old ≡ [] → input ≡ 0 →
+        ReadConsumes (R.remaining standard_input.old) (R.remaining standard_input.new) result into.new }
+    ensures standard_kept { (files.old ≢ []) ⊎ (input ≢ 0) → standard_input.new ≡ standard_input.old }
+    ensures other { length files.old ≤ input → input ≢ 0 → result ≡ Ok 0 }
+{
+    if files.is_empty() && input == 0 {
+        return standard_input.read(into);
+    }
+    if input < files.len() {
+        files[input].read(into)
+    } else {
+        Ok(0)
     }
 }

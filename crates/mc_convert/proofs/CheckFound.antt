@@ -1,0 +1,102 @@
+-- One original with its line of the report.
+use Rattle.std.proofs.Common.{◌≡◌, ℕ, List, Option, Some, None, refl, sym, subst, inl, inr}
+use Rattle.mc_base.specs.declared.ids.AtomId.{AtomId}
+use Rattle.mc_base.specs.declared.refusal.Refusal.{Refusal}
+use Rattle.mc_report.specs.declared.report_line.ReportLine.{ReportLine}
+use Rattle.mc_report.specs.declared.report_line.ReportLine.TheVariants.{Ok as OkLine, Refused as RefusedLine}
+use Rattle.mc_report.specs.Grammar.{number_of}
+use Rattle.mc_io.specs.Lines.{lines_of}
+use Rattle.mc_convert.specs.declared.finding.Finding.{Finding}
+use Rattle.mc_convert.specs.declared.finding.Finding.TheVariants.{Report}
+use Rattle.mc_convert.specs.declared.record_read.RecordRead.{RecordRead}
+use Rattle.mc_convert.specs.Records.{records}
+use Rattle.mc_convert.specs.Findings.{Says, IsMapFinding, IsRefusalFinding, AreReadAs}
+use Rattle.mc_convert.specs.Checks.{first}
+use Rattle.mc_convert.specs.CheckSteps.{ReadsNext, SaidNext, FindsNext}
+
+says_number : (k : ℕ) (line : Option (Option (List ℕ))) (said : ReportLine) → Says k line said → number_of said ≡ k
+says_number k None said h = absurd h
+says_number k (Some None) said h = absurd h
+says_number k (Some (Some text)) said h = h.1
+
+-- a line that says 'ok' says it of this number
+says_ok : (k n : ℕ) (line : Option (Option (List ℕ))) (map : List AtomId) → Says k line (OkLine n map) → Says k line (OkLine k map)
+says_ok k n line map h = subst (λ (x : ℕ). Says k line (OkLine x map)) (says_number k line (OkLine n map) h) h
+
+says_refused : (k n : ℕ) (line : Option (Option (List ℕ))) (refusal : Refusal) → Says k line (RefusedLine n refusal) → Says k line (RefusedLine k refusal)
+says_refused k n line refusal h = subst (λ (x : ℕ). Says k line (RefusedLine x refusal)) (says_number k line (RefusedLine n refusal) h) h
+
+refused_not_ok : (n m : ℕ) (refusal : Refusal) (map : List AtomId) → Some (RefusedLine n refusal) ≡ Some (OkLine m map) → ⊥
+refused_not_ok n m refusal map e = cc
+
+none_not_some : (said : ReportLine) → None ≡ Some said → ⊥
+none_not_some said e = cc
+
+pub written_found : (k n : ℕ) (original : Option (List ℕ)) (c c' r r' : Option (List ℕ)) (map : List AtomId) (read : Option RecordRead) (finding : Finding)
+    → SaidNext k r r' (Some (OkLine n map)) → ReadsNext records c c' read → ((next : Option (Option (List ℕ))) → AreReadAs next read → IsMapFinding original next map finding) → FindsNext k original c c' r r' finding
+written_found k n original None c' r r' map read finding said reads found = tt
+written_found k n original (Some c) c' None r' map read finding said reads found = tt
+written_found k n original (Some c) None (Some r) r' map read finding said reads found = absurd reads.takes
+written_found k n original (Some c) (Some c') (Some r) None map read finding said reads found = absurd said.takes
+written_found k n original (Some c) (Some c') (Some r) (Some r') map read finding said reads found =
+    let says : Says k (first (lines_of r)) (OkLine k map) =
+    subst (λ (x : Option (Option (List ℕ))). Says k x (OkLine k map)) said.takes.0 (says_ok k n said.line map ((said.says (OkLine n map)).0 refl)) in
+    let is : IsMapFinding original (first (records c)) map finding = subst (λ (x : Option (Option (List ℕ))). IsMapFinding original x map finding) reads.takes.0 (found reads.given reads.reads) in
+    record {
+      converted_left = c';
+      report_left = r';
+      converted_is = refl;
+      report_is = refl;
+      one = record {
+        finding_is = inr (inl (record { map = map; says = says; holds = is }));
+        lines_left = said.takes.1;
+        converted_left = inl (record { map = map; says = says; holds = tt }, reads.takes.1);
+      };
+    }
+
+pub refused_found : (k n : ℕ) (original : Option (List ℕ)) (c c' r r' : Option (List ℕ)) (refusal : Refusal) (finding : Finding)
+    → SaidNext k r r' (Some (RefusedLine n refusal)) → c' ≡ c → IsRefusalFinding original refusal finding → FindsNext k original c c' r r' finding
+refused_found k n original None c' r r' refusal finding said same found = tt
+refused_found k n original (Some c) c' None r' refusal finding said same found = tt
+refused_found k n original (Some c) c' (Some r) None refusal finding said same found = absurd said.takes
+refused_found k n original (Some c) c' (Some r) (Some r') refusal finding said same found =
+    let says : Says k (first (lines_of r)) (RefusedLine k refusal) =
+    subst (λ (x : Option (Option (List ℕ))). Says k x (RefusedLine k refusal)) said.takes.0 (says_refused k n said.line refusal ((said.says (RefusedLine n refusal)).0 refl)) in
+    record {
+      converted_left = c;
+      report_left = r';
+      converted_is = same;
+      report_is = refl;
+      one = record {
+        finding_is = inr (inr (record { refusal = refusal; says = says; holds = found }));
+        lines_left = said.takes.1;
+        converted_left = inr (λ ok. refused_not_ok n k refusal ok.map ((said.says (OkLine k ok.map)).1 (subst (λ (x : Option (Option (List ℕ))). Says k x (OkLine k ok.map)) (sym said.takes.0) ok.says)), refl);
+      };
+    }
+
+pub nothing_found : (k : ℕ) (original : Option (List ℕ)) (c c' r r' : Option (List ℕ)) → SaidNext k r r' None → c' ≡ c → FindsNext k original c c' r r' Report
+nothing_found k original None c' r r' said same = tt
+nothing_found k original (Some c) c' None r' said same = tt
+nothing_found k original (Some c) c' (Some r) None said same = absurd said.takes
+nothing_found k original (Some c) c' (Some r) (Some r') said same =
+    let nothing : (other : ReportLine) → Says k (first (lines_of r)) other → ⊥ =
+    λ other h. none_not_some other ((said.says other).1 (subst (λ (x : Option (Option (List ℕ))). Says k x other) (sym said.takes.0) h)) in
+    record {
+      converted_left = c;
+      report_left = r';
+      converted_is = same;
+      report_is = refl;
+      one = record {
+        finding_is = inl (nothing, refl);
+        lines_left = said.takes.1;
+        converted_left = inr (λ ok. nothing (OkLine k ok.map) ok.says, refl);
+      };
+    }
+
+-- the same with another reader's step between
+pub written_between : (k n : ℕ) (original : Option (List ℕ)) (c c1 c' r r1 r' : Option (List ℕ)) (map : List AtomId) (read : Option RecordRead) (finding : Finding)
+    → SaidNext k r r1 (Some (OkLine n map)) → ReadsNext records c1 c' read → ((next : Option (Option (List ℕ))) → AreReadAs next read → IsMapFinding original next map finding)
+    → c1 ≡ c → r' ≡ r1 → FindsNext k original c c' r r' finding
+written_between k n original c c1 c' r r1 r' map read finding said reads found same_c same_r =
+    written_found k n original c c' r r' map read finding (subst (λ (x : Option (List ℕ)). SaidNext k r x (Some (OkLine n map))) (sym same_r) said)
+    (subst (λ (x : Option (List ℕ)). ReadsNext records x c' read) same_c reads) found

@@ -1,0 +1,492 @@
+-- How far a check is, and what it has written.
+use Rattle.std.proofs.Common.{arith, ◌≡◌, ℕ, zero, suc, ◌+◌, ◌-◌, ◌^◌, ◌<◌, ◌≤◌, List, [], ◌∷◌, ◌++◌, length, take, drop, Bool, true, false, Option, Some, None, refl, ap, sym, ◌∙◌, subst, inl, inr}
+use Rattle.std.specs.Prelude.{◌&&◌, ◌↔◌, not, IfSome, IsTrue, Result, Ok, Err}
+use Rattle.std.proofs.lemmas.Bool.{false≢true}
+use Rattle.std.specs.List.{list_all}
+use Rattle.std.specs.Io.KnownBytes.{Appends}
+use Rattle.std.proofs.KnownBytes.{Appends-nil, Appends-trans}
+use Rattle.std.proofs.lemmas.List.{append-nil, append_assoc, length-append, length-take, take-append-drop}
+use Rattle.std.proofs.lemmas.List.Folds.{list_all-append}
+use Rattle.mc_io.specs.LineReader.{LineReader, ahead}
+use Rattle.mc_convert.specs.declared.check_readers.CheckReaders.{CheckReaders}
+use Rattle.mc_convert.specs.declared.finding.Finding.{Finding}
+use Rattle.mc_convert.specs.declared.record_read.RecordRead.{RecordRead}
+use Rattle.mc_convert.specs.declared.status.Halt.{Halt}
+use Rattle.mc_convert.specs.declared.status.Halt.TheVariants.{ReadFault, InputLimit, WriteFault, NoMemory}
+use Rattle.mc_convert.specs.Records.{records}
+use Rattle.mc_convert.specs.Readers.{Told, Reading, fresh}
+use Rattle.mc_convert.specs.Runs.{Held}
+use Rattle.mc_convert.specs.Findings.{AreReadAs, IsReadAs, is_true, verdict_line}
+use Rattle.mc_convert.specs.Checks.{Remaining, first, at_first, extra_line, extra_text, FindsOne, Finds, IsAllTrue, IsCheckPart, IsCheckText, verdict_lines}
+use Rattle.mc_convert.specs.CheckSteps.{fresh_readers, Advance, AreWithin, IsPast, ReadHalts, ReadsNext, TakesFirst, FindsNext, OneFound}
+use Rattle.mc_convert.specs.CheckRuns.{AllFound, CheckHalts, CheckStopped, ChecksAll, ChecksSome, ChecksLess, PastLimit, RestChecked, RestCut, RestOf, RestStopped, FoundAll, GrownBy, IfKnown, IsLessThanText, LessAt, OneChecked, OneCut, OneStopped, Written}
+use Rattle.mc_convert.proofs.CheckLifts.{halts_later}
+use Rattle.mc_convert.proofs.ReaderSteps.{rose_later}
+use Rattle.mc_convert.proofs.FindingsOnce.{finds_push, finds_count, lines_push, less_than_whole, less_than_extra, all_true_not}
+
+-- a stop of the reading is one of the check
+pub read_halts : (limit : ℕ) (halt : Halt) (readers : CheckReaders) (before after : ℕ → Told) (old new : Held) → ReadHalts limit halt readers before after → CheckHalts limit halt readers before after old new
+read_halts limit ReadFault readers before after old new h = h
+read_halts limit InputLimit readers before after old new h = h
+read_halts limit NoMemory readers before after old new h = h
+read_halts limit WriteFault readers before after old new h = absurd h
+
+-- ---- the originals so far
+
+-- so many originals are checked, and their lines are written
+pub record Front (number : ℕ) (all_true : Bool) (o c r : List ℕ) (originals converted report : Option (List ℕ)) (old new : Held) : Type 0 where
+  pub o_left : List ℕ
+  pub c_left : List ℕ
+  pub r_left : List ℕ
+  pub originals_are : originals ≡ Some o_left
+  pub converted_are : converted ≡ Some c_left
+  pub report_is : report ≡ Some r_left
+  pub done : List (Option (List ℕ))
+  pub findings : List Finding
+  pub split : records o ≡ done ++ records o_left
+  pub finds : Finds 1 done (at_first c r) findings (at_first c_left r_left)
+  pub count : length done ≡ number
+  pub true_is : list_all is_true findings ≡ all_true
+  pub written : Appends old.out new.out (verdict_lines 1 findings)
+
+abbrev pub Progress : ℕ → Bool → Option (List ℕ) → Option (List ℕ) → Option (List ℕ) → Option (List ℕ) → Option (List ℕ) → Option (List ℕ) → Held → Held → Type 0
+Progress number all_true o c r originals converted report old new = IfKnown o c r (λ x y z. Front number all_true x y z originals converted report old new)
+
+pub if_known : (o c r : Option (List ℕ)) (P Q : List ℕ → List ℕ → List ℕ → Type 0) → ((x y z : List ℕ) → P x y z → Q x y z) → IfKnown o c r P → IfKnown o c r Q
+if_known None c r P Q f h = tt
+if_known (Some x) None r P Q f h = tt
+if_known (Some x) (Some y) None P Q f h = tt
+if_known (Some x) (Some y) (Some z) P Q f h = f x y z h
+
+pub begun : (o c r : Option (List ℕ)) (held : Held) → Progress 0 true o c r (ahead (fresh 0) o) (ahead (fresh 1) c) (ahead (fresh 2) r) held held
+begun None c r held = tt
+begun (Some x) None r held = tt
+begun (Some x) (Some y) None held = tt
+begun (Some x) (Some y) (Some z) held = record {
+  o_left = x;
+  c_left = y;
+  r_left = z;
+  originals_are = refl;
+  converted_are = refl;
+  report_is = refl;
+  done = [];
+  findings = [];
+  split = refl;
+  finds = refl;
+  count = refl;
+  true_is = refl;
+  written = Appends-nil held.out;
+}
+
+pub fresh_begun : (readers : CheckReaders) (o c r : Option (List ℕ)) (held : Held) → readers ≡ fresh_readers
+    → Progress 0 true o c r (ahead readers.originals o) (ahead readers.converted c) (ahead readers.report r) held held
+fresh_begun readers o c r held e = subst (λ (x : CheckReaders). Progress 0 true o c r (ahead x.originals o) (ahead x.converted c) (ahead x.report r) held held) (sym e) (begun o c r held)
+
+-- what the next of a list is, and what follows
+from_first : (g : Option (List ℕ)) (xs ys : List (Option (List ℕ))) → Some g ≡ first xs → ys ≡ drop 1 xs → xs ≡ g ∷ ys
+from_first g [] ys e f = cc
+from_first g (x ∷ xs) ys e f = cc
+
+none_first : (xs : List (Option (List ℕ))) → None ≡ first xs → xs ≡ []
+none_first [] e = refl
+none_first (x ∷ xs) e = cc
+
+-- what is known of one original, with the inputs at hand
+record Taken (k : ℕ) (given : Option (List ℕ)) (o_left c_left r_left : List ℕ) (originals converted report : Option (List ℕ)) (finding : Finding) : Type 0 where
+  rest : List ℕ
+  rest_is : originals ≡ Some rest
+  begins : records o_left ≡ given ∷ records rest
+  found : OneFound k given c_left r_left converted report finding
+
+taken : (k : ℕ) (given : Option (List ℕ)) (o_left c_left r_left : List ℕ) (originals converted report : Option (List ℕ)) (finding : Finding)
+    → TakesFirst records (Some o_left) originals (Some given) → FindsNext k given (Some c_left) converted (Some r_left) report finding → Taken k given o_left c_left r_left originals converted report finding
+taken k given o_left c_left r_left None converted report finding takes finds = absurd takes
+taken k given o_left c_left r_left (Some rest) converted report finding takes finds = record { rest = rest; rest_is = refl; begins = from_first given (records o_left) (records rest) takes.0 takes.1; found = finds }
+
+both : (a b p q : Bool) → a ≡ p → b ≡ q → a && b ≡ p && q
+both a b p q e f = cc
+
+last_true : (finding : Finding) → list_all is_true (finding ∷ []) ≡ is_true finding
+last_true finding = by_test (is_true finding)
+  where
+    by_test : (b : Bool) → b && true ≡ b
+    by_test true = refl
+    by_test false = refl
+
+-- one more original, with the number of its line
+at_number : (done : List (Option (List ℕ))) (number k : ℕ) (given : Option (List ℕ)) (before after : Remaining) (finding : Finding) → length done ≡ number → k ≡ number + 1 → FindsOne k given before finding after
+    → FindsOne (1 + length done) given before finding after
+at_number done number k given before after finding count next one = subst (λ (n : ℕ). FindsOne n given before finding after) (let e : k ≡ 1 + length done = omega arith in e) one
+
+pub front_pushed : (number k : ℕ) (t u : Bool) (o c r : List ℕ) (o1 c1 r1 o2 c2 r2 : Option (List ℕ)) (old mid new : Held) (given : Option (List ℕ))
+    → Front number t o c r o1 c1 r1 old mid → k ≡ number + 1 → TakesFirst records o1 o2 (Some given) → OneChecked k given c1 c2 r1 r2 mid new u → Front k (t && u) o c r o2 c2 r2 old new
+front_pushed number k t u o c r o1 c1 r1 o2 c2 r2 old mid new given f next takes one =
+    let takes' = subst (λ (x : Option (List ℕ)). TakesFirst records x o2 (Some given)) f.originals_are takes in
+    let P : Option (List ℕ) → Type 0 = λ x. FindsNext k given x c2 r1 r2 one.finding in
+    let Q : Option (List ℕ) → Type 0 = λ x. FindsNext k given (Some f.c_left) c2 x r2 one.finding in
+    let s = taken k given f.o_left f.c_left f.r_left o2 c2 r2 one.finding takes' (subst Q f.report_is (subst P f.converted_are one.finds)) in
+    let step = at_number f.done number k given (at_first f.c_left f.r_left) (at_first s.found.converted_left s.found.report_left) one.finding f.count next s.found.one in
+    let many = finds_count 1 f.done (at_first c r) (at_first f.c_left f.r_left) f.findings f.finds in
+    let count = f.count in
+    let more = length-append f.done (given ∷ []) in
+    let line : verdict_line k one.finding ≡ verdict_line (1 + length f.findings) one.finding = ap (λ (n : ℕ). verdict_line n one.finding) (let e : k ≡ 1 + length f.findings = omega arith in e) in
+    record {
+      o_left = s.rest;
+      c_left = s.found.converted_left;
+      r_left = s.found.report_left;
+      originals_are = s.rest_is;
+      converted_are = s.found.converted_is;
+      report_is = s.found.report_is;
+      done = f.done ++ given ∷ [];
+      findings = f.findings ++ one.finding ∷ [];
+      split = f.split ∙ ap (λ (x : List (Option (List ℕ))). f.done ++ x) s.begins ∙ sym (append_assoc f.done (given ∷ []) (records s.rest));
+      finds = finds_push 1 f.done given (at_first c r) (at_first f.c_left f.r_left) (at_first s.found.converted_left s.found.report_left) f.findings one.finding f.finds step;
+      count = omega arith;
+      true_is = list_all-append is_true f.findings (one.finding ∷ []) ∙ both (list_all is_true f.findings) (list_all is_true (one.finding ∷ [])) t u f.true_is (last_true one.finding ∙ sym one.true_is);
+      written = subst (λ (x : List ℕ). Appends old.out new.out x) (ap (λ (x : List ℕ). verdict_lines 1 f.findings ++ x) line ∙ sym (lines_push 1 f.findings one.finding))
+          (Appends-trans old.out mid.out new.out (verdict_lines 1 f.findings) (verdict_line k one.finding) f.written one.written);
+    }
+
+pub pushed : (number k : ℕ) (t u : Bool) (o c r o1 c1 r1 o2 c2 r2 : Option (List ℕ)) (old mid new : Held) (given : Option (List ℕ))
+    → Progress number t o c r o1 c1 r1 old mid → k ≡ number + 1 → TakesFirst records o1 o2 (Some given) → OneChecked k given c1 c2 r1 r2 mid new u → Progress k (t && u) o c r o2 c2 r2 old new
+pushed number k t u o c r o1 c1 r1 o2 c2 r2 old mid new given p next takes one =
+    if_known o c r (λ x y z. Front number t x y z o1 c1 r1 old mid) (λ x y z. Front k (t && u) x y z o2 c2 r2 old new)
+    (λ x y z f. front_pushed number k t u x y z o1 c1 r1 o2 c2 r2 old mid new given f next takes one) p
+
+-- ---- a stop
+
+take_front : (xs ys : List (Option (List ℕ))) → take (length xs) (xs ++ ys) ≡ xs
+take_front [] ys = refl
+take_front (x ∷ xs) ys = ap (λ (l : List (Option (List ℕ))). x ∷ l) (take_front xs ys)
+
+-- between two originals
+pub stopped_between : (number : ℕ) (t : Bool) (o c r o1 c1 r1 : Option (List ℕ)) (old new : Held) → Progress number t o c r o1 c1 r1 old new → ChecksSome o c r old.out new.out
+stopped_between number t o c r o1 c1 r1 old new p =
+    if_known o c r (λ x y z. Front number t x y z o1 c1 r1 old new) (λ x y z. GrownBy old.out new.out (IsCheckPart x y z)) (λ x y z f. record {
+      more = verdict_lines 1 f.findings;
+      out = f.written;
+      holds = inl (record {
+        count = length f.done;
+        findings = f.findings;
+        after = at_first f.c_left f.r_left;
+        finds = subst (λ (l : List (Option (List ℕ))). Finds 1 l (at_first y z) f.findings (at_first f.c_left f.r_left)) (sym (ap (take (length f.done)) f.split ∙ take_front f.done (records f.o_left))) f.finds;
+        part = ([], sym (append-nil (verdict_lines 1 f.findings)));
+      });
+    }) p
+
+-- within a line
+pub record Cut (o c r : List ℕ) (old new : Option (List ℕ)) : Type 0 where
+  pub some : GrownBy old new (IsCheckPart o c r)
+  pub less : GrownBy old new (IsLessThanText o c r)
+
+front_cut : (number k : ℕ) (t : Bool) (o c r : List ℕ) (o1 c1 r1 o2 c2 r2 : Option (List ℕ)) (old mid new : Held) (given : Option (List ℕ))
+    → Front number t o c r o1 c1 r1 old mid → k ≡ number + 1 → TakesFirst records o1 o2 (Some given) → OneCut k given c1 c2 r1 r2 mid new → Cut o c r old.out new.out
+front_cut number k t o c r o1 c1 r1 o2 c2 r2 old mid new given f next takes one =
+    let takes' = subst (λ (x : Option (List ℕ)). TakesFirst records x o2 (Some given)) f.originals_are takes in
+    let P : Option (List ℕ) → Type 0 = λ x. FindsNext k given x c2 r1 r2 one.finding in
+    let Q : Option (List ℕ) → Type 0 = λ x. FindsNext k given (Some f.c_left) c2 x r2 one.finding in
+    let s = taken k given f.o_left f.c_left f.r_left o2 c2 r2 one.finding takes' (subst Q f.report_is (subst P f.converted_are one.finds)) in
+    let step = at_number f.done number k given (at_first f.c_left f.r_left) (at_first s.found.converted_left s.found.report_left) one.finding f.count next s.found.one in
+    let many = finds_count 1 f.done (at_first c r) (at_first f.c_left f.r_left) f.findings f.finds in
+    let count = f.count in
+    let whole : List ℕ = verdict_line k one.finding in
+    let m : ℕ = one.written.0 in
+    let within = one.written.1 in
+    let out = Appends-trans old.out mid.out new.out (verdict_lines 1 f.findings) (take m whole) f.written one.written.2 in
+    let split : records o ≡ f.done ++ given ∷ records s.rest = f.split ∙ ap (λ (x : List (Option (List ℕ))). f.done ++ x) s.begins in
+    let done : List (Option (List ℕ)) = f.done ++ given ∷ [] in
+    let line : verdict_line k one.finding ≡ verdict_line (1 + length f.findings) one.finding = ap (λ (n : ℕ). verdict_line n one.finding) (let e : k ≡ 1 + length f.findings = omega arith in e) in
+    let same : verdict_line k one.finding ≡ verdict_line (1 + length f.done) one.finding = ap (λ (n : ℕ). verdict_line n one.finding) (let e : k ≡ 1 + length f.done = omega arith in e) in
+    let finds = finds_push 1 f.done given (at_first c r) (at_first f.c_left f.r_left) (at_first s.found.converted_left s.found.report_left) f.findings one.finding f.finds step in
+    record {
+      some = record {
+        more = verdict_lines 1 f.findings ++ take m whole;
+        out = out;
+        holds = inl (record {
+          count = length done;
+          findings = f.findings ++ one.finding ∷ [];
+          after = at_first s.found.converted_left s.found.report_left;
+          finds = subst (λ (l : List (Option (List ℕ))). Finds 1 l (at_first c r) (f.findings ++ one.finding ∷ []) (at_first s.found.converted_left s.found.report_left))
+              (sym (ap (take (length done)) (split ∙ sym (append_assoc f.done (given ∷ []) (records s.rest))) ∙ take_front done (records s.rest))) finds;
+          part = (
+            drop m whole,
+            lines_push 1 f.findings one.finding ∙ ap (λ (x : List ℕ). verdict_lines 1 f.findings ++ x) (sym line ∙ sym (take-append-drop m whole)) ∙ sym (append_assoc (verdict_lines 1 f.findings) (take m whole) (drop m whole)),
+          );
+        });
+      };
+      less = record {
+        more = verdict_lines 1 f.findings ++ take m whole;
+        out = out;
+        holds = λ text is.
+            let part = length-append (verdict_lines 1 f.findings) (take m whole) in
+            let low = length-take m whole in
+            let equal = ap (λ (x : List ℕ). length x) same in
+            less_than_whole o c r text f.done (records s.rest) given (at_first f.c_left f.r_left) (at_first s.found.converted_left s.found.report_left) f.findings one.finding (length (verdict_lines 1 f.findings ++ take m whole)) f.finds split step (omega arith) is;
+      };
+    }
+
+pub stopped_within : (number k : ℕ) (t : Bool) (o c r o1 c1 r1 o2 c2 r2 : Option (List ℕ)) (old mid new : Held) (given : Option (List ℕ))
+    → Progress number t o c r o1 c1 r1 old mid → k ≡ number + 1 → TakesFirst records o1 o2 (Some given) → OneCut k given c1 c2 r1 r2 mid new
+    → ChecksSome o c r old.out new.out × ChecksLess o c r old.out new.out
+stopped_within number k t o c r o1 c1 r1 o2 c2 r2 old mid new given p next takes one =
+    let F : List ℕ → List ℕ → List ℕ → Type 0 = λ x y z. Front number t x y z o1 c1 r1 old mid in
+    let cut : (x y z : List ℕ) → F x y z → Cut x y z old.out new.out = λ x y z f. front_cut number k t x y z o1 c1 r1 o2 c2 r2 old mid new given f next takes one in (
+      if_known o c r F (λ x y z. GrownBy old.out new.out (IsCheckPart x y z)) (λ x y z f. (cut x y z f).some) p,
+      if_known o c r F (λ x y z. GrownBy old.out new.out (IsLessThanText x y z)) (λ x y z f. (cut x y z f).less) p,
+    )
+
+-- ---- steps of the loop
+
+-- an original that was taken and read
+pub record Given (all rest : Option (List ℕ)) (original : RecordRead) : Type 0 where
+  pub text : Option (List ℕ)
+  pub takes : TakesFirst records all rest (Some text)
+  pub reads : IsReadAs text original
+
+pub given_of : (all rest : Option (List ℕ)) (read : Option RecordRead) (original : RecordRead) → read ≡ Some original → ReadsNext records all rest read → Given all rest original
+given_of all rest read original e r = by_given r.given (subst (λ (x : Option RecordRead). AreReadAs r.given x) e r.reads) r.takes
+  where
+    by_given : (given : Option (Option (List ℕ))) → AreReadAs given (Some original) → TakesFirst records all rest given → Given all rest original
+    by_given None reads takes = absurd reads
+    by_given (Some text) reads takes = record { text = text; takes = takes; reads = reads }
+
+-- none was left
+pub none_of : (all rest : Option (List ℕ)) (read : Option RecordRead) → read ≡ None → ReadsNext records all rest read → TakesFirst records all rest None
+none_of all rest read e r = by_given r.given (subst (λ (x : Option RecordRead). AreReadAs r.given x) e r.reads) r.takes
+  where
+    by_given : (given : Option (Option (List ℕ))) → AreReadAs given None → TakesFirst records all rest given → TakesFirst records all rest None
+    by_given None reads takes = takes
+    by_given (Some text) reads takes = absurd reads
+
+-- one more original, where other readers moved on and stayed in between
+pub checked_next : (number k : ℕ) (t u : Bool) (o c r o1 c1 r1 o2 c1' r1' o3 c2 r2 : Option (List ℕ)) (old mid new : Held) (text : Option (List ℕ))
+    → Progress number t o c r o1 c1 r1 old mid → k ≡ number + 1 → TakesFirst records o1 o2 (Some text) → c1' ≡ c1 → r1' ≡ r1 → OneChecked k text c1' c2 r1' r2 mid new u → o3 ≡ o2
+    → Progress k (t && u) o c r o3 c2 r2 old new
+checked_next number k t u o c r o1 c1 r1 o2 c1' r1' o3 c2 r2 old mid new text p next takes same_c same_r one same_o =
+    let P : Option (List ℕ) → Type 0 = λ x. OneChecked k text x c2 r1' r2 mid new u in
+    let Q : Option (List ℕ) → Type 0 = λ x. OneChecked k text c1 c2 x r2 mid new u in
+    let R : Option (List ℕ) → Type 0 = λ x. Progress k (t && u) o c r x c2 r2 old new in
+    subst R (sym same_o) (pushed number k t u o c r o1 c1 r1 o2 c2 r2 old mid new text p next takes (subst Q same_r (subst P same_c one)))
+
+pub cut_next : (number k : ℕ) (t : Bool) (o c r o1 c1 r1 o2 c1' r1' c2 r2 : Option (List ℕ)) (old mid new : Held) (text : Option (List ℕ))
+    → Progress number t o c r o1 c1 r1 old mid → k ≡ number + 1 → TakesFirst records o1 o2 (Some text) → c1' ≡ c1 → r1' ≡ r1 → OneCut k text c1' c2 r1' r2 mid new
+    → ChecksSome o c r old.out new.out × ChecksLess o c r old.out new.out
+cut_next number k t o c r o1 c1 r1 o2 c1' r1' c2 r2 old mid new text p next takes same_c same_r one =
+    let P : Option (List ℕ) → Type 0 = λ x. OneCut k text x c2 r1' r2 mid new in
+    let Q : Option (List ℕ) → Type 0 = λ x. OneCut k text c1 c2 x r2 mid new in
+    stopped_within number k t o c r o1 c1 r1 o2 c2 r2 old mid new text p next takes (subst Q same_r (subst P same_c one))
+
+-- nothing more is written
+as_before : (number : ℕ) (t : Bool) (o c r o1 c1 r1 : Option (List ℕ)) (old mid new : Held) → Progress number t o c r o1 c1 r1 old mid → new.out ≡ mid.out → ChecksSome o c r old.out new.out
+as_before number t o c r o1 c1 r1 old mid new p same = subst (λ (x : Option (List ℕ)). ChecksSome o c r old.out x) (sym same) (stopped_between number t o c r o1 c1 r1 old mid p)
+
+-- a stop at one original
+pub halted_next : (halt : Halt) (number k : ℕ) (t : Bool) (o c r o1 c1 r1 o2 c1' r1' c2 r2 : Option (List ℕ)) (old mid new : Held) (text : Option (List ℕ))
+    → Progress number t o c r o1 c1 r1 old mid → k ≡ number + 1 → TakesFirst records o1 o2 (Some text) → c1' ≡ c1 → r1' ≡ r1 → OneStopped halt k text c1' c2 r1' r2 mid new
+    → ChecksSome o c r old.out new.out × LessAt halt o c r old new
+halted_next WriteFault number k t o c r o1 c1 r1 o2 c1' r1' c2 r2 old mid new text p next takes same_c same_r one =
+    cut_next number k t o c r o1 c1 r1 o2 c1' r1' c2 r2 old mid new text p next takes same_c same_r one
+halted_next ReadFault number k t o c r o1 c1 r1 o2 c1' r1' c2 r2 old mid new text p next takes same_c same_r one = (as_before number t o c r o1 c1 r1 old mid new p one, tt)
+halted_next InputLimit number k t o c r o1 c1 r1 o2 c1' r1' c2 r2 old mid new text p next takes same_c same_r one = (as_before number t o c r o1 c1 r1 old mid new p one, tt)
+halted_next NoMemory number k t o c r o1 c1 r1 o2 c1' r1' c2 r2 old mid new text p next takes same_c same_r one = (as_before number t o c r o1 c1 r1 old mid new p one, tt)
+
+-- all are checked
+pub all_found : (number : ℕ) (t : Bool) (o c r o1 c1 r1 o2 c2 r2 : Option (List ℕ)) (old new : Held) → Progress number t o c r o1 c1 r1 old new → TakesFirst records o1 o2 None → c2 ≡ c1 → r2 ≡ r1
+    → FoundAll t o c r c2 r2 old new
+all_found number t o c r o1 c1 r1 o2 c2 r2 old new p takes same_c same_r =
+    if_known o c r (λ x y z. Front number t x y z o1 c1 r1 old new) (λ x y z. AllFound t x y z c2 r2 old new) (λ x y z f.
+    let none : records f.o_left ≡ [] = at_end f.o_left o2 (subst (λ (a : Option (List ℕ)). TakesFirst records a o2 None) f.originals_are takes) in
+    record {
+      c_left = f.c_left;
+      r_left = f.r_left;
+      converted_are = same_c ∙ f.converted_are;
+      report_is = same_r ∙ f.report_is;
+      findings = f.findings;
+      finds = subst (λ (l : List (Option (List ℕ))). Finds 1 l (at_first y z) f.findings (at_first f.c_left f.r_left)) (sym (f.split ∙ ap (λ (l : List (Option (List ℕ))). f.done ++ l) none ∙ append-nil f.done)) f.finds;
+      true_is = f.true_is;
+      written = f.written;
+    }) p
+  where
+    at_end : (left : List ℕ) (rest : Option (List ℕ)) → TakesFirst records (Some left) rest None → records left ≡ []
+    at_end left None h = absurd h
+    at_end left (Some rest) h = none_first (records left) h.0
+
+-- what a sink does in several steps
+pub written_trans : (a b c : Held) → Written a b → Written b c → Written a c
+written_trans a b c p q = record { later = (let low = p.later in let high = q.later in omega arith); report = q.report ∙ p.report }
+
+-- a stop of the check behind other steps
+pub check_halts_later : (limit : ℕ) (halt : Halt) (a b c : CheckReaders) (x y z : ℕ → Told) (old mid new : Held) → Advance a b x y → old.faults ≤ mid.faults → CheckHalts limit halt c y z mid new → CheckHalts limit halt c x z old new
+check_halts_later limit ReadFault a b c x y z old mid new p later h = halts_later limit ReadFault a b c x y z p h
+check_halts_later limit InputLimit a b c x y z old mid new p later h = h
+check_halts_later limit NoMemory a b c x y z old mid new p later h = h
+check_halts_later limit WriteFault a b c x y z old mid new p later (within, rose) = (within, rose_later old.faults mid.faults new.faults later rose)
+
+-- ---- the whole text
+
+-- the whole text, and whether all of it is true
+record WholeText (all_true extra : Bool) (o c r : List ℕ) (old new : Option (List ℕ)) : Type 0 where
+  grown : GrownBy old new (IsCheckText o c r)
+  true_is : IsTrue (all_true && not extra) ↔ IsAllTrue o c r
+
+if_both : (a b : Bool) → IsTrue (a && not b) → (a ≡ true) × (b ≡ false)
+if_both true true h = cc
+if_both true false h = (refl, refl)
+if_both false b h = cc
+
+both_so : (a b : Bool) → a ≡ true → b ≡ false → IsTrue (a && not b)
+both_so a b e f = cc
+
+with_rest : (t extra : Bool) (o c r c_left r_left : List ℕ) (old mid new : Held) (findings : List Finding) → Finds 1 (records o) (at_first c r) findings (at_first c_left r_left) → list_all is_true findings ≡ t
+    → Appends old.out mid.out (verdict_lines 1 findings) → RestOf c_left r_left mid new extra → WholeText t extra o c r old.out new.out
+with_rest t extra o c r c_left r_left old mid new findings finds true_is written rest = record {
+  grown = record {
+    more = verdict_lines 1 findings ++ extra_text extra;
+    out = Appends-trans old.out mid.out new.out (verdict_lines 1 findings) (extra_text extra) written rest.written;
+    holds = record { findings = findings; after = at_first c_left r_left; finds = finds; written = ap (λ (b : Bool). verdict_lines 1 findings ++ extra_text b) rest.extra_is };
+  };
+  true_is = (
+    λ h. let parts = if_both t extra h in record { findings = findings; after = at_first c_left r_left; finds = finds; all_true = true_is ∙ parts.0; no_extra = sym rest.extra_is ∙ parts.1 },
+    λ all. let parts = all_true_not o c r findings (at_first c_left r_left) all finds in both_so t extra (sym true_is ∙ parts.0) (rest.extra_is ∙ parts.1),
+  );
+}
+
+found_with_rest : (t extra : Bool) (o c r : List ℕ) (c1 r1 : Option (List ℕ)) (old mid new : Held) → AllFound t o c r c1 r1 old mid → RestChecked c1 r1 mid new extra → WholeText t extra o c r old.out new.out
+found_with_rest t extra o c r c1 r1 old mid new f rest =
+    let P : Option (List ℕ) → Type 0 = λ x. RestChecked x r1 mid new extra in
+    let Q : Option (List ℕ) → Type 0 = λ x. RestChecked (Some f.c_left) x mid new extra in
+    with_rest t extra o c r f.c_left f.r_left old mid new f.findings f.finds f.true_is f.written (subst Q f.report_is (subst P f.converted_are rest))
+
+pub checks_all : (t extra : Bool) (o c r c1 r1 : Option (List ℕ)) (old mid new : Held) → FoundAll t o c r c1 r1 old mid → RestChecked c1 r1 mid new extra → ChecksAll o c r old.out new.out
+checks_all t extra o c r c1 r1 old mid new found rest =
+    if_known o c r (λ x y z. AllFound t x y z c1 r1 old mid) (λ x y z. GrownBy old.out new.out (IsCheckText x y z)) (λ x y z f. (found_with_rest t extra x y z c1 r1 old mid new f rest).grown) found
+
+pub checks_true : (t extra : Bool) (o c r c1 r1 : Option (List ℕ)) (old mid new : Held) → FoundAll t o c r c1 r1 old mid → RestChecked c1 r1 mid new extra → IfKnown o c r (λ x y z. IsTrue (t && not extra) ↔ IsAllTrue x y z)
+checks_true t extra o c r c1 r1 old mid new found rest =
+    if_known o c r (λ x y z. AllFound t x y z c1 r1 old mid) (λ x y z. IsTrue (t && not extra) ↔ IsAllTrue x y z) (λ x y z f. (found_with_rest t extra x y z c1 r1 old mid new f rest).true_is) found
+
+take_all : (xs : List (Option (List ℕ))) → take (length xs) xs ≡ xs
+take_all [] = refl
+take_all (x ∷ xs) = ap (λ (l : List (Option (List ℕ))). x ∷ l) (take_all xs)
+
+-- behind the last original
+found_part : (t : Bool) (o c r : List ℕ) (c1 r1 : Option (List ℕ)) (old new : Held) → AllFound t o c r c1 r1 old new → GrownBy old.out new.out (IsCheckPart o c r)
+found_part t o c r c1 r1 old new f = record {
+  more = verdict_lines 1 f.findings;
+  out = f.written;
+  holds = inl (record {
+    count = length (records o);
+    findings = f.findings;
+    after = at_first f.c_left f.r_left;
+    finds = subst (λ (l : List (Option (List ℕ))). Finds 1 l (at_first c r) f.findings (at_first f.c_left f.r_left)) (sym (take_all (records o))) f.finds;
+    part = ([], sym (append-nil (verdict_lines 1 f.findings)));
+  });
+}
+
+-- within the last line
+rest_cut : (t : Bool) (o c r : List ℕ) (c1 r1 : Option (List ℕ)) (old mid new : Held) → AllFound t o c r c1 r1 old mid → IfSome c1 (λ x. IfSome r1 (λ y. RestCut x y mid new)) → Cut o c r old.out new.out
+rest_cut t o c r c1 r1 old mid new f rest =
+    let P : Option (List ℕ) → Type 0 = λ a. IfSome a (λ x. IfSome r1 (λ y. RestCut x y mid new)) in
+    let Q : Option (List ℕ) → Type 0 = λ a. IfSome (Some f.c_left) (λ x. IfSome a (λ y. RestCut x y mid new)) in
+    let cut : RestCut f.c_left f.r_left mid new = subst Q f.report_is (subst P f.converted_are rest) in
+    let m : ℕ = cut.written.0 in
+    let within = cut.written.1 in
+    let out = Appends-trans old.out mid.out new.out (verdict_lines 1 f.findings) (take m extra_line) f.written cut.written.2 in
+    record {
+      some = record {
+        more = verdict_lines 1 f.findings ++ take m extra_line;
+        out = out;
+        holds = inr (record {
+          whole = verdict_lines 1 f.findings ++ extra_line;
+          is = record { findings = f.findings; after = at_first f.c_left f.r_left; finds = f.finds; written = ap (λ (b : Bool). verdict_lines 1 f.findings ++ extra_text b) (sym cut.extra) };
+          part = (drop m extra_line, ap (λ (x : List ℕ). verdict_lines 1 f.findings ++ x) (sym (take-append-drop m extra_line)) ∙ sym (append_assoc (verdict_lines 1 f.findings) (take m extra_line) (drop m extra_line)));
+        });
+      };
+      less = record {
+        more = verdict_lines 1 f.findings ++ take m extra_line;
+        out = out;
+        holds = λ text is.
+            let part = length-append (verdict_lines 1 f.findings) (take m extra_line) in
+            let low = length-take m extra_line in
+            less_than_extra o c r text f.findings (at_first f.c_left f.r_left) (length (verdict_lines 1 f.findings ++ take m extra_line)) f.finds cut.extra (omega arith) is;
+      };
+    }
+
+rest_as_before : (t : Bool) (o c r c1 r1 : Option (List ℕ)) (old mid new : Held) → FoundAll t o c r c1 r1 old mid → new.out ≡ mid.out → ChecksSome o c r old.out new.out
+rest_as_before t o c r c1 r1 old mid new found same = subst (λ (x : Option (List ℕ)). ChecksSome o c r old.out x) (sym same)
+    (if_known o c r (λ x y z. AllFound t x y z c1 r1 old mid) (λ x y z. GrownBy old.out mid.out (IsCheckPart x y z)) (λ x y z f. found_part t x y z c1 r1 old mid f) found)
+
+pub rest_stopped : (halt : Halt) (t : Bool) (o c r c1 r1 : Option (List ℕ)) (old mid new : Held) → FoundAll t o c r c1 r1 old mid → RestStopped halt c1 r1 mid new → ChecksSome o c r old.out new.out × LessAt halt o c r old new
+rest_stopped WriteFault t o c r c1 r1 old mid new found rest =
+    let F : List ℕ → List ℕ → List ℕ → Type 0 = λ x y z. AllFound t x y z c1 r1 old mid in (
+      if_known o c r F (λ x y z. GrownBy old.out new.out (IsCheckPart x y z)) (λ x y z f. (rest_cut t x y z c1 r1 old mid new f rest).some) found,
+      if_known o c r F (λ x y z. GrownBy old.out new.out (IsLessThanText x y z)) (λ x y z f. (rest_cut t x y z c1 r1 old mid new f rest).less) found,
+    )
+rest_stopped ReadFault t o c r c1 r1 old mid new found rest = (rest_as_before t o c r c1 r1 old mid new found rest, tt)
+rest_stopped InputLimit t o c r c1 r1 old mid new found rest = (rest_as_before t o c r c1 r1 old mid new found rest, tt)
+rest_stopped NoMemory t o c r c1 r1 old mid new found rest = (rest_as_before t o c r c1 r1 old mid new found rest, tt)
+
+-- ---- causes
+
+pub stopped_by : (limit : ℕ) (halt : Halt) (readers : CheckReaders) (before after : ℕ → Told) (old new : Held) → CheckHalts limit halt readers before after old new → LessAt halt (before 0).left (before 1).left (before 2).left old new
+    → CheckStopped halt before after old new
+stopped_by limit ReadFault readers before after old new h less = h.1
+stopped_by limit InputLimit readers before after old new h less = h.1
+stopped_by limit NoMemory readers before after old new h less = tt
+stopped_by limit WriteFault readers before after old new h less = (h.1, less)
+
+-- what was taken of an input is what its reader counts
+taken_is : (i : ℕ) (reader : LineReader) (before after : Told) → Reading (fresh i) reader before after → before.taken < 2 ^ 127 → after.taken ≡ before.taken + reader.taken
+taken_is i reader before after h less =
+    let few = h.few (omega arith) in
+    let is : after.taken ≡ before.taken + (reader.taken - 0) = h.counted (omega arith) in omega arith
+
+abbrev FewTaken : (ℕ → Told) → Type 0
+FewTaken before = (i : ℕ) → i < 3 → (before i).taken < 2 ^ 127
+
+past_limit : (limit : ℕ) (readers : CheckReaders) (before after : ℕ → Told) → FewTaken before → Advance fresh_readers readers before after → IsPast limit readers → PastLimit limit (λ i. (before i).taken) (λ i. (after i).taken)
+past_limit limit readers before after few advance (inl past) =
+    let is = taken_is 0 readers.originals (before 0) (after 0) advance.originals (few 0 (omega arith)) in record { input = 0; is_input = omega arith; past = omega arith }
+past_limit limit readers before after few advance (inr (inl past)) =
+    let is = taken_is 1 readers.converted (before 1) (after 1) advance.converted (few 1 (omega arith)) in record { input = 1; is_input = omega arith; past = omega arith }
+past_limit limit readers before after few advance (inr (inr past)) =
+    let is = taken_is 2 readers.report (before 2) (after 2) advance.report (few 2 (omega arith)) in record { input = 2; is_input = omega arith; past = omega arith }
+
+not_past : (limit : ℕ) (readers : CheckReaders) (before after : ℕ → Told) → FewTaken before → Advance fresh_readers readers before after → AreWithin limit readers → PastLimit limit (λ i. (before i).taken) (λ i. (after i).taken) → ⊥
+not_past limit readers before after few advance within past = by_input past.input past.is_input past.past
+  where
+    by_input : (i : ℕ) → i < 3 → (before i).taken + limit < (after i).taken → ⊥
+    by_input zero less more =
+        let is = taken_is 0 readers.originals (before 0) (after 0) advance.originals (few 0 (omega arith)) in let low = within.originals in omega arith
+    by_input (suc zero) less more =
+        let is = taken_is 1 readers.converted (before 1) (after 1) advance.converted (few 1 (omega arith)) in let low = within.converted in omega arith
+    by_input (suc (suc zero)) less more =
+        let is = taken_is 2 readers.report (before 2) (after 2) advance.report (few 2 (omega arith)) in let low = within.report in omega arith
+    by_input (suc (suc (suc i))) less more = omega arith
+
+abbrev stop : Halt → Result Bool Halt
+stop halt = Err halt
+
+-- the limit is answered exactly where more was taken
+pub limit_at : (limit : ℕ) (halt : Halt) (readers : CheckReaders) (before after : ℕ → Told) (old new : Held) → FewTaken before → Advance fresh_readers readers before after → CheckHalts limit halt readers before after old new
+    → (stop halt ≡ stop InputLimit) ↔ PastLimit limit (λ i. (before i).taken) (λ i. (after i).taken)
+limit_at limit ReadFault readers before after old new few advance h = (λ e. absurd cc, λ past. absurd (not_past limit readers before after few advance h.0 past))
+limit_at limit InputLimit readers before after old new few advance h = (λ _. past_limit limit readers before after few advance h.0, λ _. refl)
+limit_at limit NoMemory readers before after old new few advance h = (λ e. absurd cc, λ past. absurd (not_past limit readers before after few advance h past))
+limit_at limit WriteFault readers before after old new few advance h = (λ e. absurd cc, λ past. absurd (not_past limit readers before after few advance h.0 past))
+
+pub no_limit : (limit : ℕ) (result : Bool) (readers : CheckReaders) (before after : ℕ → Told) → FewTaken before → Advance fresh_readers readers before after → AreWithin limit readers
+    → (Ok result ≡ stop InputLimit) ↔ PastLimit limit (λ i. (before i).taken) (λ i. (after i).taken)
+no_limit limit result readers before after few advance within = (λ e. absurd cc, λ past. absurd (not_past limit readers before after few advance within past))
+
+-- all three inputs were read to their ends
+pub all_ended : (readers : CheckReaders) (before after : ℕ → Told) → Advance fresh_readers readers before after → IsTrue readers.originals.ended → IsTrue readers.converted.ended → IsTrue readers.report.ended
+    → (i : ℕ) → i < 3 → IsTrue (after i).ended
+all_ended readers before after advance o c r zero less = advance.originals.at_end (λ h. absurd (false≢true h)) o
+all_ended readers before after advance o c r (suc zero) less = advance.converted.at_end (λ h. absurd (false≢true h)) c
+all_ended readers before after advance o c r (suc (suc zero)) less = advance.report.at_end (λ h. absurd (false≢true h)) r
+all_ended readers before after advance o c r (suc (suc (suc i))) less = absurd (omega arith)
+
+-- nothing is written yet
+pub nothing_checked : (o c r : Option (List ℕ)) (held : Held) → ChecksSome o c r held.out held.out
+nothing_checked o c r held = stopped_between 0 true o c r (ahead (fresh 0) o) (ahead (fresh 1) c) (ahead (fresh 2) r) held held (begun o c r held)

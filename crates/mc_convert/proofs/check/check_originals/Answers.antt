@@ -1,0 +1,185 @@
+use Rattle.std.proofs.Common.{◌+◌, ◌∙◌, ℕ, Bool, ap, refl, sym, subst, arith}
+use Rattle.std.specs.Prelude.{◌&&◌}
+use Rattle.mc_io.specs.LineReader.{ahead}
+use Rattle.mc_convert.specs.Readers.{Told, told}
+use Rattle.mc_convert.specs.Runs.{Held, held_by}
+use Rattle.mc_convert.proofs.CheckLifts.{advance_none, advance_trans, ahead_kept, fresh_may}
+use Rattle.mc_convert.proofs.Checking.{Progress, fresh_begun, given_of, none_of, all_found, checked_next, halted_next, written_trans, check_halts_later}
+use Rattle.mc_convert.proofs.check.check_originals.Goals as goal
+
+pub loop-original-init : goal.loop-original-init
+loop-original-init g c = record {
+  may_read = fresh_may g.S.Source.LIMIT c.args.readers.now c.requires;
+  numbered = omega arith;
+  few = rw c.requires (omega arith);
+  advance = advance_none c.args.readers.now (told (g.S.Source.left c.args.source.now) (g.S.Source.faults c.args.source.now) (g.S.Source.taken c.args.source.now) (g.S.Source.ended c.args.source.now));
+  written = record { later = omega arith; report = refl };
+  progress = fresh_begun c.args.readers.now (g.S.Source.left c.args.source.now 0) (g.S.Source.left c.args.source.now 1) (g.S.Source.left c.args.source.now 2) (held_by (g.K.Sink.held c.args.sink.now) (g.K.Sink.faults c.args.sink.now)) c.requires;
+}
+
+pub returns-in-Ok-None-clause-found : goal.returns-in-Ok-None-clause-found
+returns-in-Ok-None-clause-found g c =
+    let read = c.in-Ok-None.ensures in
+    let o = g.S.Source.left c.args.source.now 0 in
+    let c0 = g.S.Source.left c.args.source.now 1 in
+    let r0 = g.S.Source.left c.args.source.now 2 in
+    let o1 = ahead c.loop-original.readers.originals (g.S.Source.left c.loop-original.source 0) in
+    let c1 = ahead c.loop-original.readers.converted (g.S.Source.left c.loop-original.source 1) in
+    let r1 = ahead c.loop-original.readers.report (g.S.Source.left c.loop-original.source 2) in
+    let o2 = ahead c.read_original.new.self.originals (g.S.Source.left c.read_original.new.source 0) in
+    let c2 = ahead c.read_original.new.self.converted (g.S.Source.left c.read_original.new.source 1) in
+    let r2 = ahead c.read_original.new.self.report (g.S.Source.left c.read_original.new.source 2) in
+    let H0 : Held = held_by (g.K.Sink.held c.args.sink.now) (g.K.Sink.faults c.args.sink.now) in
+    let H1 : Held = held_by (g.K.Sink.held c.loop-original.sink) (g.K.Sink.faults c.loop-original.sink) in
+    let same_c = ahead_kept c.loop-original.readers.converted c.read_original.new.self.converted (g.S.Source.left c.loop-original.source 1) (g.S.Source.left c.read_original.new.source 1) read.kept.0 (read.others 1 (λ x. omega arith)) in
+    let same_r = ahead_kept c.loop-original.readers.report c.read_original.new.self.report (g.S.Source.left c.loop-original.source 2) (g.S.Source.left c.read_original.new.source 2) read.kept.1 (read.others 2 (λ x. omega arith)) in
+    all_found c.loop-original.number c.loop-original.all_true o c0 r0 o1 c1 r1 o2 c2 r2 H0 H1 c.loop-original.invariant.progress (none_of o1 o2 c.in-Ok-None.field-0 c.in-Ok-None.field-0-is read.reads) same_c same_r
+
+pub loop-original-preserved-then-all_true : goal.loop-original-preserved-then-all_true
+loop-original-preserved-then-all_true g c =
+    let inv = c.loop-original.invariant in
+    let read = c.in-Ok-Some.ensures in
+    let o = g.S.Source.left c.args.source.now 0 in
+    let c0 = g.S.Source.left c.args.source.now 1 in
+    let r0 = g.S.Source.left c.args.source.now 2 in
+    let o1 = ahead c.loop-original.readers.originals (g.S.Source.left c.loop-original.source 0) in
+    let c1 = ahead c.loop-original.readers.converted (g.S.Source.left c.loop-original.source 1) in
+    let r1 = ahead c.loop-original.readers.report (g.S.Source.left c.loop-original.source 2) in
+    let o2 = ahead c.read_original.new.self.originals (g.S.Source.left c.read_original.new.source 0) in
+    let c2 = ahead c.read_original.new.self.converted (g.S.Source.left c.read_original.new.source 1) in
+    let r2 = ahead c.read_original.new.self.report (g.S.Source.left c.read_original.new.source 2) in
+    let o3 = ahead c.check_next.new.readers.originals (g.S.Source.left c.check_next.new.source 0) in
+    let c3 = ahead c.check_next.new.readers.converted (g.S.Source.left c.check_next.new.source 1) in
+    let r3 = ahead c.check_next.new.readers.report (g.S.Source.left c.check_next.new.source 2) in
+    let H0 : Held = held_by (g.K.Sink.held c.args.sink.now) (g.K.Sink.faults c.args.sink.now) in
+    let H1 : Held = held_by (g.K.Sink.held c.loop-original.sink) (g.K.Sink.faults c.loop-original.sink) in
+    let H3 : Held = held_by (g.K.Sink.held c.check_next.new.sink) (g.K.Sink.faults c.check_next.new.sink) in
+    let T0 : ℕ → Told = told (g.S.Source.left c.args.source.now) (g.S.Source.faults c.args.source.now) (g.S.Source.taken c.args.source.now) (g.S.Source.ended c.args.source.now) in
+    let T1 : ℕ → Told = told (g.S.Source.left c.loop-original.source) (g.S.Source.faults c.loop-original.source) (g.S.Source.taken c.loop-original.source) (g.S.Source.ended c.loop-original.source) in
+    let T2 : ℕ → Told = told (g.S.Source.left c.read_original.new.source) (g.S.Source.faults c.read_original.new.source) (g.S.Source.taken c.read_original.new.source) (g.S.Source.ended c.read_original.new.source) in
+    let T3 : ℕ → Told = told (g.S.Source.left c.check_next.new.source) (g.S.Source.faults c.check_next.new.source) (g.S.Source.taken c.check_next.new.source) (g.S.Source.ended c.check_next.new.source) in
+    let given = given_of o1 o2 c.in-Ok-Some.field-0 c.in-Ok-Some.original c.in-Ok-Some.field-0-is read.reads in
+    let same_c = ahead_kept c.loop-original.readers.converted c.read_original.new.self.converted (g.S.Source.left c.loop-original.source 1) (g.S.Source.left c.read_original.new.source 1) read.kept.0 (read.others 1 (λ x. omega arith)) in
+    let same_r = ahead_kept c.loop-original.readers.report c.read_original.new.self.report (g.S.Source.left c.loop-original.source 2) (g.S.Source.left c.read_original.new.source 2) read.kept.1 (read.others 2 (λ x. omega arith)) in
+    let one = c.in-Ok.ensures.checked given.text given.reads in
+    let same_o = ahead_kept c.read_original.new.self.originals c.check_next.new.readers.originals (g.S.Source.left c.read_original.new.source 0) (g.S.Source.left c.check_next.new.source 0) c.in-Ok.ensures.kept c.in-Ok.ensures.left in
+    let progress = checked_next c.loop-original.number (c.loop-original.number + 1) c.loop-original.all_true c.in-Ok.is_true o c0 r0 o1 c1 r1 o2 c2 r2 o3 c3 r3 H0 H1 H3 given.text inv.progress refl given.takes same_c same_r one same_o in
+    let passed = read.passed (rw c.in-Ok-Some.field-0-is refl) in
+    let numbered = inv.numbered in
+    let few = read.few in record {
+      may_read = c.in-Ok.ensures.may_read;
+      numbered = rw c.in-Ok.ensures.kept (omega arith);
+      few = rw c.in-Ok.ensures.kept few;
+      advance = advance_trans c.args.readers.now c.read_original.new.self c.check_next.new.readers T0 T2 T3 (advance_trans c.args.readers.now c.loop-original.readers c.read_original.new.self T0 T1 T2 inv.advance read.advance) c.in-Ok.ensures.advance;
+      written = written_trans H0 H1 H3 inv.written c.in-Ok.ensures.written;
+      progress = subst (λ (t : Bool). Progress (c.loop-original.number + 1) (t && c.in-Ok.is_true) o c0 r0 o3 c3 r3 H0 H3) c.if-all_true.true progress;
+    }
+
+pub loop-original-preserved : goal.loop-original-preserved
+loop-original-preserved g c =
+    let inv = c.loop-original.invariant in
+    let read = c.in-Ok-Some.ensures in
+    let o = g.S.Source.left c.args.source.now 0 in
+    let c0 = g.S.Source.left c.args.source.now 1 in
+    let r0 = g.S.Source.left c.args.source.now 2 in
+    let o1 = ahead c.loop-original.readers.originals (g.S.Source.left c.loop-original.source 0) in
+    let c1 = ahead c.loop-original.readers.converted (g.S.Source.left c.loop-original.source 1) in
+    let r1 = ahead c.loop-original.readers.report (g.S.Source.left c.loop-original.source 2) in
+    let o2 = ahead c.read_original.new.self.originals (g.S.Source.left c.read_original.new.source 0) in
+    let c2 = ahead c.read_original.new.self.converted (g.S.Source.left c.read_original.new.source 1) in
+    let r2 = ahead c.read_original.new.self.report (g.S.Source.left c.read_original.new.source 2) in
+    let o3 = ahead c.check_next.new.readers.originals (g.S.Source.left c.check_next.new.source 0) in
+    let c3 = ahead c.check_next.new.readers.converted (g.S.Source.left c.check_next.new.source 1) in
+    let r3 = ahead c.check_next.new.readers.report (g.S.Source.left c.check_next.new.source 2) in
+    let H0 : Held = held_by (g.K.Sink.held c.args.sink.now) (g.K.Sink.faults c.args.sink.now) in
+    let H1 : Held = held_by (g.K.Sink.held c.loop-original.sink) (g.K.Sink.faults c.loop-original.sink) in
+    let H3 : Held = held_by (g.K.Sink.held c.check_next.new.sink) (g.K.Sink.faults c.check_next.new.sink) in
+    let T0 : ℕ → Told = told (g.S.Source.left c.args.source.now) (g.S.Source.faults c.args.source.now) (g.S.Source.taken c.args.source.now) (g.S.Source.ended c.args.source.now) in
+    let T1 : ℕ → Told = told (g.S.Source.left c.loop-original.source) (g.S.Source.faults c.loop-original.source) (g.S.Source.taken c.loop-original.source) (g.S.Source.ended c.loop-original.source) in
+    let T2 : ℕ → Told = told (g.S.Source.left c.read_original.new.source) (g.S.Source.faults c.read_original.new.source) (g.S.Source.taken c.read_original.new.source) (g.S.Source.ended c.read_original.new.source) in
+    let T3 : ℕ → Told = told (g.S.Source.left c.check_next.new.source) (g.S.Source.faults c.check_next.new.source) (g.S.Source.taken c.check_next.new.source) (g.S.Source.ended c.check_next.new.source) in
+    let given = given_of o1 o2 c.in-Ok-Some.field-0 c.in-Ok-Some.original c.in-Ok-Some.field-0-is read.reads in
+    let same_c = ahead_kept c.loop-original.readers.converted c.read_original.new.self.converted (g.S.Source.left c.loop-original.source 1) (g.S.Source.left c.read_original.new.source 1) read.kept.0 (read.others 1 (λ x. omega arith)) in
+    let same_r = ahead_kept c.loop-original.readers.report c.read_original.new.self.report (g.S.Source.left c.loop-original.source 2) (g.S.Source.left c.read_original.new.source 2) read.kept.1 (read.others 2 (λ x. omega arith)) in
+    let one = c.in-Ok.ensures.checked given.text given.reads in
+    let same_o = ahead_kept c.read_original.new.self.originals c.check_next.new.readers.originals (g.S.Source.left c.read_original.new.source 0) (g.S.Source.left c.check_next.new.source 0) c.in-Ok.ensures.kept c.in-Ok.ensures.left in
+    let progress = checked_next c.loop-original.number (c.loop-original.number + 1) c.loop-original.all_true c.in-Ok.is_true o c0 r0 o1 c1 r1 o2 c2 r2 o3 c3 r3 H0 H1 H3 given.text inv.progress refl given.takes same_c same_r one same_o in
+    let passed = read.passed (rw c.in-Ok-Some.field-0-is refl) in
+    let numbered = inv.numbered in
+    let few = read.few in record {
+      may_read = c.in-Ok.ensures.may_read;
+      numbered = rw c.in-Ok.ensures.kept (omega arith);
+      few = rw c.in-Ok.ensures.kept few;
+      advance = advance_trans c.args.readers.now c.read_original.new.self c.check_next.new.readers T0 T2 T3 (advance_trans c.args.readers.now c.loop-original.readers c.read_original.new.self T0 T1 T2 inv.advance read.advance) c.in-Ok.ensures.advance;
+      written = written_trans H0 H1 H3 inv.written c.in-Ok.ensures.written;
+      progress = subst (λ (t : Bool). Progress (c.loop-original.number + 1) t o c0 r0 o3 c3 r3 H0 H3) (ap (λ (t : Bool). t && c.in-Ok.is_true) c.if-all_true.false ∙ sym c.if-all_true.false) progress;
+    }
+
+pub returns-in-Err-check_next-clause-some : goal.returns-in-Err-check_next-clause-some
+returns-in-Err-check_next-clause-some g c =
+    let inv = c.loop-original.invariant in
+    let read = c.in-Ok-Some.ensures in
+    let o = g.S.Source.left c.args.source.now 0 in
+    let c0 = g.S.Source.left c.args.source.now 1 in
+    let r0 = g.S.Source.left c.args.source.now 2 in
+    let o1 = ahead c.loop-original.readers.originals (g.S.Source.left c.loop-original.source 0) in
+    let c1 = ahead c.loop-original.readers.converted (g.S.Source.left c.loop-original.source 1) in
+    let r1 = ahead c.loop-original.readers.report (g.S.Source.left c.loop-original.source 2) in
+    let o2 = ahead c.read_original.new.self.originals (g.S.Source.left c.read_original.new.source 0) in
+    let c2 = ahead c.read_original.new.self.converted (g.S.Source.left c.read_original.new.source 1) in
+    let r2 = ahead c.read_original.new.self.report (g.S.Source.left c.read_original.new.source 2) in
+    let o3 = ahead c.check_next.new.readers.originals (g.S.Source.left c.check_next.new.source 0) in
+    let c3 = ahead c.check_next.new.readers.converted (g.S.Source.left c.check_next.new.source 1) in
+    let r3 = ahead c.check_next.new.readers.report (g.S.Source.left c.check_next.new.source 2) in
+    let H0 : Held = held_by (g.K.Sink.held c.args.sink.now) (g.K.Sink.faults c.args.sink.now) in
+    let H1 : Held = held_by (g.K.Sink.held c.loop-original.sink) (g.K.Sink.faults c.loop-original.sink) in
+    let H3 : Held = held_by (g.K.Sink.held c.check_next.new.sink) (g.K.Sink.faults c.check_next.new.sink) in
+    let given = given_of o1 o2 c.in-Ok-Some.field-0 c.in-Ok-Some.original c.in-Ok-Some.field-0-is read.reads in
+    let same_c = ahead_kept c.loop-original.readers.converted c.read_original.new.self.converted (g.S.Source.left c.loop-original.source 1) (g.S.Source.left c.read_original.new.source 1) read.kept.0 (read.others 1 (λ x. omega arith)) in
+    let same_r = ahead_kept c.loop-original.readers.report c.read_original.new.self.report (g.S.Source.left c.loop-original.source 2) (g.S.Source.left c.read_original.new.source 2) read.kept.1 (read.others 2 (λ x. omega arith)) in
+    let halted = halted_next c.in-Err-check_next.halt c.loop-original.number (c.loop-original.number + 1) c.loop-original.all_true o c0 r0 o1 c1 r1 o2 c2 r2 c3 r3 H0 H1 H3 given.text inv.progress refl given.takes same_c same_r (c.in-Err-check_next.ensures.stopped given.text given.reads) in halted.0
+
+pub returns-in-Err-check_next-clause-less : goal.returns-in-Err-check_next-clause-less
+returns-in-Err-check_next-clause-less g c =
+    let inv = c.loop-original.invariant in
+    let read = c.in-Ok-Some.ensures in
+    let o = g.S.Source.left c.args.source.now 0 in
+    let c0 = g.S.Source.left c.args.source.now 1 in
+    let r0 = g.S.Source.left c.args.source.now 2 in
+    let o1 = ahead c.loop-original.readers.originals (g.S.Source.left c.loop-original.source 0) in
+    let c1 = ahead c.loop-original.readers.converted (g.S.Source.left c.loop-original.source 1) in
+    let r1 = ahead c.loop-original.readers.report (g.S.Source.left c.loop-original.source 2) in
+    let o2 = ahead c.read_original.new.self.originals (g.S.Source.left c.read_original.new.source 0) in
+    let c2 = ahead c.read_original.new.self.converted (g.S.Source.left c.read_original.new.source 1) in
+    let r2 = ahead c.read_original.new.self.report (g.S.Source.left c.read_original.new.source 2) in
+    let o3 = ahead c.check_next.new.readers.originals (g.S.Source.left c.check_next.new.source 0) in
+    let c3 = ahead c.check_next.new.readers.converted (g.S.Source.left c.check_next.new.source 1) in
+    let r3 = ahead c.check_next.new.readers.report (g.S.Source.left c.check_next.new.source 2) in
+    let H0 : Held = held_by (g.K.Sink.held c.args.sink.now) (g.K.Sink.faults c.args.sink.now) in
+    let H1 : Held = held_by (g.K.Sink.held c.loop-original.sink) (g.K.Sink.faults c.loop-original.sink) in
+    let H3 : Held = held_by (g.K.Sink.held c.check_next.new.sink) (g.K.Sink.faults c.check_next.new.sink) in
+    let given = given_of o1 o2 c.in-Ok-Some.field-0 c.in-Ok-Some.original c.in-Ok-Some.field-0-is read.reads in
+    let same_c = ahead_kept c.loop-original.readers.converted c.read_original.new.self.converted (g.S.Source.left c.loop-original.source 1) (g.S.Source.left c.read_original.new.source 1) read.kept.0 (read.others 1 (λ x. omega arith)) in
+    let same_r = ahead_kept c.loop-original.readers.report c.read_original.new.self.report (g.S.Source.left c.loop-original.source 2) (g.S.Source.left c.read_original.new.source 2) read.kept.1 (read.others 2 (λ x. omega arith)) in
+    let halted = halted_next c.in-Err-check_next.halt c.loop-original.number (c.loop-original.number + 1) c.loop-original.all_true o c0 r0 o1 c1 r1 o2 c2 r2 c3 r3 H0 H1 H3 given.text inv.progress refl given.takes same_c same_r (c.in-Err-check_next.ensures.stopped given.text given.reads) in halted.1
+
+pub returns-in-Err-check_next-clause-halts : goal.returns-in-Err-check_next-clause-halts
+returns-in-Err-check_next-clause-halts g c =
+    let T0 : ℕ → Told = told (g.S.Source.left c.args.source.now) (g.S.Source.faults c.args.source.now) (g.S.Source.taken c.args.source.now) (g.S.Source.ended c.args.source.now) in
+    let T1 : ℕ → Told = told (g.S.Source.left c.loop-original.source) (g.S.Source.faults c.loop-original.source) (g.S.Source.taken c.loop-original.source) (g.S.Source.ended c.loop-original.source) in
+    let T2 : ℕ → Told = told (g.S.Source.left c.read_original.new.source) (g.S.Source.faults c.read_original.new.source) (g.S.Source.taken c.read_original.new.source) (g.S.Source.ended c.read_original.new.source) in
+    let T3 : ℕ → Told = told (g.S.Source.left c.check_next.new.source) (g.S.Source.faults c.check_next.new.source) (g.S.Source.taken c.check_next.new.source) (g.S.Source.ended c.check_next.new.source) in
+    let H0 : Held = held_by (g.K.Sink.held c.args.sink.now) (g.K.Sink.faults c.args.sink.now) in
+    let H1 : Held = held_by (g.K.Sink.held c.loop-original.sink) (g.K.Sink.faults c.loop-original.sink) in
+    let H3 : Held = held_by (g.K.Sink.held c.check_next.new.sink) (g.K.Sink.faults c.check_next.new.sink) in
+    check_halts_later g.S.Source.LIMIT c.in-Err-check_next.halt c.args.readers.now c.read_original.new.self c.check_next.new.readers T0 T2 T3 H0 H1 H3
+    (advance_trans c.args.readers.now c.loop-original.readers c.read_original.new.self T0 T1 T2 c.loop-original.invariant.advance c.in-Ok-Some.ensures.advance) c.loop-original.invariant.written.later c.in-Err-check_next.ensures.halts
+
+pub returns-in-Err-check_next-clause-advance : goal.returns-in-Err-check_next-clause-advance
+returns-in-Err-check_next-clause-advance g c =
+    let T0 : ℕ → Told = told (g.S.Source.left c.args.source.now) (g.S.Source.faults c.args.source.now) (g.S.Source.taken c.args.source.now) (g.S.Source.ended c.args.source.now) in
+    let T1 : ℕ → Told = told (g.S.Source.left c.loop-original.source) (g.S.Source.faults c.loop-original.source) (g.S.Source.taken c.loop-original.source) (g.S.Source.ended c.loop-original.source) in
+    let T2 : ℕ → Told = told (g.S.Source.left c.read_original.new.source) (g.S.Source.faults c.read_original.new.source) (g.S.Source.taken c.read_original.new.source) (g.S.Source.ended c.read_original.new.source) in
+    let T3 : ℕ → Told = told (g.S.Source.left c.check_next.new.source) (g.S.Source.faults c.check_next.new.source) (g.S.Source.taken c.check_next.new.source) (g.S.Source.ended c.check_next.new.source) in
+    advance_trans c.args.readers.now c.read_original.new.self c.check_next.new.readers T0 T2 T3
+    (advance_trans c.args.readers.now c.loop-original.readers c.read_original.new.self T0 T1 T2 c.loop-original.invariant.advance c.in-Ok-Some.ensures.advance) c.in-Err-check_next.ensures.advance

@@ -1,0 +1,158 @@
+-- What a check leaves at the outputs, and how it ends (this project's own).
+use Rattle.std.specs.Prelude.{◌≡◌, ◌↔◌, ⊤, ℕ, ◌+◌, ◌<◌, ◌≤◌, List, ◌++◌, Bool, true, Option, Some, Result, Ok, Err, IfSome, IsTrue, length}
+use Rattle.std.specs.List.{list_all}
+use Rattle.std.specs.Io.KnownBytes.{Appends}
+use Rattle.mc_io.specs.Causes.{Rose}
+use Rattle.mc_io.specs.Outside.{AppendsPart}
+use Rattle.mc_convert.specs.declared.finding.Finding.{Finding}
+use Rattle.mc_convert.specs.declared.check_readers.CheckReaders.{CheckReaders}
+use Rattle.mc_convert.specs.declared.status.Halt.{Halt}
+use Rattle.mc_convert.specs.declared.status.Halt.TheVariants.{ReadFault, InputLimit, WriteFault, NoMemory}
+use Rattle.mc_convert.specs.Readers.{Told}
+use Rattle.mc_convert.specs.Runs.{Held}
+use Rattle.mc_convert.specs.Findings.{is_true, verdict_line}
+use Rattle.mc_convert.specs.Checks.{Finds, at_first, extra_line, extra_text, is_extra, verdict_lines, IsCheckText, IsCheckPart, IsAllTrue}
+use Rattle.mc_convert.specs.Records.{records}
+use Rattle.mc_convert.specs.CheckSteps.{AreWithin, IsPast, ReadFailed, NotEnded, FindsNext}
+
+-- where the three inputs are known
+abbrev pub IfKnown : Option (List ℕ) → Option (List ℕ) → Option (List ℕ) → (List ℕ → List ℕ → List ℕ → Type 0) → Type 0
+IfKnown originals converted report P = IfSome originals (λ o. IfSome converted (λ c. IfSome report (λ r. P o c r)))
+
+-- an output has grown by bytes of which P holds
+pub record GrownBy (old new : Option (List ℕ)) (P : List ℕ → Type 0) : Type 0 where
+  pub more : List ℕ
+  pub out : Appends old new more
+  pub holds : P more
+
+-- the whole text of a check is written
+abbrev pub ChecksAll : Option (List ℕ) → Option (List ℕ) → Option (List ℕ) → Option (List ℕ) → Option (List ℕ) → Type 0
+ChecksAll originals converted report old new = IfKnown originals converted report (λ o c r. GrownBy old new (IsCheckText o c r))
+
+-- a front of the text is written
+abbrev pub ChecksSome : Option (List ℕ) → Option (List ℕ) → Option (List ℕ) → Option (List ℕ) → Option (List ℕ) → Type 0
+ChecksSome originals converted report old new = IfKnown originals converted report (λ o c r. GrownBy old new (IsCheckPart o c r))
+
+-- less than the whole text
+abbrev pub IsLessThanText : List ℕ → List ℕ → List ℕ → List ℕ → Type 0
+IsLessThanText originals converted report more = (text : List ℕ) → IsCheckText originals converted report text → length more < length text
+
+abbrev pub ChecksLess : Option (List ℕ) → Option (List ℕ) → Option (List ℕ) → Option (List ℕ) → Option (List ℕ) → Type 0
+ChecksLess originals converted report old new = IfKnown originals converted report (λ o c r. GrownBy old new (IsLessThanText o c r))
+
+-- the inputs and what output 0 holds are known, and it has grown by the whole text
+pub record AllIsChecked (originals converted report old new : Option (List ℕ)) : Type 0 where
+  pub o : List ℕ
+  pub c : List ℕ
+  pub r : List ℕ
+  pub before : List ℕ
+  pub text : List ℕ
+  pub originals_are : originals ≡ Some o
+  pub converted_are : converted ≡ Some c
+  pub report_is : report ≡ Some r
+  pub old_is : old ≡ Some before
+  pub new_is : new ≡ Some (before ++ text)
+  pub whole : IsCheckText o c r text
+
+-- more than the limit was taken of one of the three inputs
+pub record PastLimit (limit : ℕ) (before after : ℕ → ℕ) : Type 0 where
+  pub input : ℕ
+  pub is_input : input < 3
+  pub past : before input + limit < after input
+
+-- reads of one of the three inputs have failed
+pub record FaultsRose (before after : ℕ → ℕ) : Type 0 where
+  pub input : ℕ
+  pub is_input : input < 3
+  pub rose : Rose (before input) (after input)
+
+-- ---- one original
+
+-- it was found so, and its line is written
+pub record OneChecked (k : ℕ) (original : Option (List ℕ)) (converted converted_rest report report_rest : Option (List ℕ)) (old new : Held) (all_true : Bool) : Type 0 where
+  pub finding : Finding
+  pub finds : FindsNext k original converted converted_rest report report_rest finding
+  pub true_is : all_true ≡ is_true finding
+  pub written : Appends old.out new.out (verdict_line k finding)
+
+-- it was found so, and a part of its line is written, but not all
+pub record OneCut (k : ℕ) (original : Option (List ℕ)) (converted converted_rest report report_rest : Option (List ℕ)) (old new : Held) : Type 0 where
+  pub finding : Finding
+  pub finds : FindsNext k original converted converted_rest report report_rest finding
+  pub written : AppendsPart old.out new.out (verdict_line k finding)
+
+-- what a stop leaves
+abbrev pub OneStopped : Halt → ℕ → Option (List ℕ) → Option (List ℕ) → Option (List ℕ) → Option (List ℕ) → Option (List ℕ) → Held → Held → Type 0
+OneStopped WriteFault k original converted converted_rest report report_rest old new = OneCut k original converted converted_rest report report_rest old new
+OneStopped halt k original converted converted_rest report report_rest old new = new.out ≡ old.out
+
+-- a stop has its cause
+abbrev pub CheckHalts : ℕ → Halt → CheckReaders → (ℕ → Told) → (ℕ → Told) → Held → Held → Type 0
+CheckHalts limit ReadFault readers before after old new = AreWithin limit readers × ReadFailed before after
+CheckHalts limit InputLimit readers before after old new = IsPast limit readers × NotEnded after
+CheckHalts limit NoMemory readers before after old new = AreWithin limit readers
+CheckHalts limit WriteFault readers before after old new = AreWithin limit readers × Rose old.faults new.faults
+
+-- what an output is like behind any write
+pub record Written (old new : Held) : Type 0 where
+  pub later : old.faults ≤ new.faults
+  pub report : new.report ≡ old.report
+
+-- ---- the whole
+
+pub record CheckedAll (all_true : Bool) (before after : ℕ → Told) (old new : Held) : Type 0 where
+  pub ended : (i : ℕ) → i < 3 → IsTrue (after i).ended
+  pub all : ChecksAll (before 0).left (before 1).left (before 2).left old.out new.out
+  pub true_is : IfKnown (before 0).left (before 1).left (before 2).left (λ o c r. IsTrue all_true ↔ IsAllTrue o c r)
+
+-- the cause of a stop
+abbrev pub CheckStopped : Halt → (ℕ → Told) → (ℕ → Told) → Held → Held → Type 0
+CheckStopped ReadFault before after old new = ReadFailed before after
+CheckStopped InputLimit before after old new = NotEnded after
+CheckStopped NoMemory before after old new = ⊤
+CheckStopped WriteFault before after old new = Rose old.faults new.faults × ChecksLess (before 0).left (before 1).left (before 2).left old.out new.out
+
+-- How a check ended.
+abbrev pub CheckRan : Result Bool Halt → (ℕ → Told) → (ℕ → Told) → Held → Held → Type 0
+CheckRan (Ok all_true) before after old new = CheckedAll all_true before after old new
+CheckRan (Err halt) before after old new = ChecksSome (before 0).left (before 1).left (before 2).left old.out new.out × CheckStopped halt before after old new
+
+-- ---- all originals
+
+-- all originals are checked, and their lines are written
+pub record AllFound (all_true : Bool) (o c r : List ℕ) (converted report : Option (List ℕ)) (old new : Held) : Type 0 where
+  pub c_left : List ℕ
+  pub r_left : List ℕ
+  pub converted_are : converted ≡ Some c_left
+  pub report_is : report ≡ Some r_left
+  pub findings : List Finding
+  pub finds : Finds 1 (records o) (at_first c r) findings (at_first c_left r_left)
+  pub true_is : list_all is_true findings ≡ all_true
+  pub written : Appends old.out new.out (verdict_lines 1 findings)
+
+abbrev pub FoundAll : Bool → Option (List ℕ) → Option (List ℕ) → Option (List ℕ) → Option (List ℕ) → Option (List ℕ) → Held → Held → Type 0
+FoundAll all_true o c r converted report old new = IfKnown o c r (λ x y z. AllFound all_true x y z converted report old new)
+
+-- a failed write leaves less than the whole text
+abbrev pub LessAt : Halt → Option (List ℕ) → Option (List ℕ) → Option (List ℕ) → Held → Held → Type 0
+LessAt WriteFault o c r old new = ChecksLess o c r old.out new.out
+LessAt halt o c r old new = ⊤
+
+-- ---- what is left behind the originals
+
+-- it is said whether something is extra, and its line is written
+pub record RestOf (converted report : List ℕ) (old new : Held) (extra : Bool) : Type 0 where
+  pub extra_is : extra ≡ is_extra (at_first converted report)
+  pub written : Appends old.out new.out (extra_text extra)
+
+abbrev pub RestChecked : Option (List ℕ) → Option (List ℕ) → Held → Held → Bool → Type 0
+RestChecked converted report old new extra = IfSome converted (λ c. IfSome report (λ r. RestOf c r old new extra))
+
+-- a part of the line is written, and not all
+pub record RestCut (converted report : List ℕ) (old new : Held) : Type 0 where
+  pub extra : is_extra (at_first converted report) ≡ true
+  pub written : AppendsPart old.out new.out extra_line
+
+abbrev pub RestStopped : Halt → Option (List ℕ) → Option (List ℕ) → Held → Held → Type 0
+RestStopped WriteFault converted report old new = IfSome converted (λ c. IfSome report (λ r. RestCut c r old new))
+RestStopped halt converted report old new = new.out ≡ old.out

@@ -1,0 +1,213 @@
+ghost use Rattle.std.specs.Prelude.{◌≡◌, ◌≤◌, IfOk, Some, length};
+ghost use Rattle.mc_io.specs.Lines.{most_bytes};
+ghost use Rattle.mc_convert.specs.Findings.{AreReadAs, FindsSaid, met};
+
+use crate::finding::said_of;
+use crate::left_over::{more_lines, more_records};
+use crate::record_read::{RecordRead, read_long, read_record};
+use crate::records::{NextLine, next_line, next_record};
+use crate::status::Halt;
+use mc_base::NoMemory;
+use mc_io::{LineStep, Lines, Source};
+use mc_report::ReportLine;
+use std::alloc::Global;
+
+/// The three inputs of a check, read line by line.
+#[derive(Drop)]
+pub struct CheckReaders {
+    originals: Lines,
+    converted: Lines,
+    report: Lines,
+}
+
+impl CheckReaders {
+    ghost use Rattle.std.specs.Prelude.{◌≡◌, ◌<◌, ◌≤◌, ◌^◌, ℕ, length, IfOk, IfErr, IfSome, OnOk, IsNone, IsSome, IsTrue, Ok, Some, is_some};
+    ghost use Rattle.mc_io.specs.Lines.{most_bytes, lines_of};
+    ghost use Rattle.mc_io.specs.LineReader.{ahead};
+    ghost use Rattle.mc_io.specs.Outside.{SameBut};
+    ghost use Rattle.mc_convert.specs.Checks.{first};
+    ghost use Rattle.mc_convert.specs.Records.{records};
+    ghost use Rattle.mc_convert.specs.Readers.{told, fresh};
+    ghost use Rattle.mc_convert.specs.Findings.{AreReadAs, met};
+    ghost use Rattle.mc_convert.specs.CheckSteps.{Advance, MayRead, ReadHalts, TakesFirst, ReadsNext, SaidNext};
+
+    /// Readers that have read nothing yet.
+    pub fn new(alloc: Global) -> Result<CheckReaders, NoMemory>
+        ensures { IfOk result (λ readers. readers ≡ record { originals = fresh 0; converted = fresh 1; report = fresh 2 }) }
+    {
+        let originals = Lines::new(alloc, 0)?;
+        let converted = Lines::new(alloc, 1)?;
+        let report = Lines::new(alloc, 2)?;
+        Ok(CheckReaders {
+            originals,
+            converted,
+            report,
+        })
+    }
+
+    /// Passes the next original and reads it.
+    #[tactic(auto, using(crate::proofs::CheckLifts::originals_advance, crate::proofs::CheckLifts::originals_halts, crate::proofs::CheckLifts::may_read_on, crate::proofs::CheckLifts::record_first, crate::proofs::CheckLifts::all_within))]
+    pub fn read_original<S: Source>(
+        &mut self,
+        alloc: Global,
+        source: &mut S,
+    ) -> Result<Option<RecordRead>, Halt>
+        requires { MayRead S.LIMIT self.old }
+        ensures reads { IfOk result (ReadsNext records (ahead self.old.originals (S.left source.old 0)) (ahead self.new.originals (S.left source.new 0))) }
+        ensures ended { IfOk result (λ read. IsNone read → IsTrue self.new.originals.ended) }
+        ensures passed { IfOk result (λ read. IsSome read → self.old.originals.passed < self.new.originals.passed) }
+        ensures few { self.new.originals.passed < 2 ^ 64 }
+        ensures advance { Advance self.old self.new
+            (told (S.left source.old) (S.faults source.old) (S.taken source.old) (S.ended source.old))
+            (told (S.left source.new) (S.faults source.new) (S.taken source.new) (S.ended source.new)) }
+        ensures may_read { IfOk result (λ _. MayRead S.LIMIT self.new) }
+        ensures halts { IfErr result (λ halt. ReadHalts S.LIMIT halt self.new
+            (told (S.left source.old) (S.faults source.old) (S.taken source.old) (S.ended source.old))
+            (told (S.left source.new) (S.faults source.new) (S.taken source.new) (S.ended source.new))) }
+        ensures kept { (self.new.converted ≡ self.old.converted) × (self.new.report ≡ self.old.report) }
+        ensures others { SameBut 0 (S.left source.old) (S.left source.new) }
+    {
+        match next_record(&mut self.originals, source) {
+            Ok(next) => match read_next(alloc, next, &self.originals) {
+                Ok(read) => Ok(read),
+                Err(_) => Err(Halt::NoMemory),
+            },
+            Err(stop) => Err(Halt::from(stop)),
+        }
+    }
+
+    /// Passes the next converted record and reads it.
+    #[tactic(auto, using(crate::proofs::CheckLifts::converted_advance, crate::proofs::CheckLifts::converted_halts, crate::proofs::CheckLifts::may_read_on, crate::proofs::CheckLifts::record_first, crate::proofs::CheckLifts::all_within))]
+    pub fn read_converted<S: Source>(
+        &mut self,
+        alloc: Global,
+        source: &mut S,
+    ) -> Result<Option<RecordRead>, Halt>
+        requires { MayRead S.LIMIT self.old }
+        ensures reads { IfOk result (ReadsNext records (ahead self.old.converted (S.left source.old 1)) (ahead self.new.converted (S.left source.new 1))) }
+        ensures ended { IfOk result (λ read. IsNone read → IsTrue self.new.converted.ended) }
+        ensures advance { Advance self.old self.new
+            (told (S.left source.old) (S.faults source.old) (S.taken source.old) (S.ended source.old))
+            (told (S.left source.new) (S.faults source.new) (S.taken source.new) (S.ended source.new)) }
+        ensures may_read { IfOk result (λ _. MayRead S.LIMIT self.new) }
+        ensures halts { IfErr result (λ halt. ReadHalts S.LIMIT halt self.new
+            (told (S.left source.old) (S.faults source.old) (S.taken source.old) (S.ended source.old))
+            (told (S.left source.new) (S.faults source.new) (S.taken source.new) (S.ended source.new))) }
+        ensures kept { (self.new.originals ≡ self.old.originals) × (self.new.report ≡ self.old.report) }
+        ensures others { SameBut 1 (S.left source.old) (S.left source.new) }
+    {
+        match next_record(&mut self.converted, source) {
+            Ok(next) => match read_next(alloc, next, &self.converted) {
+                Ok(read) => Ok(read),
+                Err(_) => Err(Halt::NoMemory),
+            },
+            Err(stop) => Err(Halt::from(stop)),
+        }
+    }
+
+    /// Passes the next line of the report, and gives what it says of record k.
+    #[tactic(auto, using(crate::proofs::CheckLifts::report_advance, crate::proofs::CheckLifts::report_halts, crate::proofs::CheckLifts::may_read_on, crate::proofs::CheckLifts::line_taken, crate::proofs::CheckLifts::all_within))]
+    pub fn read_said<S: Source>(
+        &mut self,
+        alloc: Global,
+        k: u64,
+        source: &mut S,
+    ) -> Result<Option<ReportLine>, Halt>
+        requires { MayRead S.LIMIT self.old }
+        ensures says { IfOk result (SaidNext k (ahead self.old.report (S.left source.old 2)) (ahead self.new.report (S.left source.new 2))) }
+        ensures advance { Advance self.old self.new
+            (told (S.left source.old) (S.faults source.old) (S.taken source.old) (S.ended source.old))
+            (told (S.left source.new) (S.faults source.new) (S.taken source.new) (S.ended source.new)) }
+        ensures may_read { IfOk result (λ _. MayRead S.LIMIT self.new) }
+        ensures halts { IfErr result (λ halt. ReadHalts S.LIMIT halt self.new
+            (told (S.left source.old) (S.faults source.old) (S.taken source.old) (S.ended source.old))
+            (told (S.left source.new) (S.faults source.new) (S.taken source.new) (S.ended source.new))) }
+        ensures kept { (self.new.originals ≡ self.old.originals) × (self.new.converted ≡ self.old.converted) }
+        ensures others { SameBut 2 (S.left source.old) (S.left source.new) }
+    {
+        match next_line(&mut self.report, source) {
+            Ok(next) => match said_next(alloc, k, next, &self.report) {
+                Ok(said) => Ok(said),
+                Err(_) => Err(Halt::NoMemory),
+            },
+            Err(stop) => Err(Halt::from(stop)),
+        }
+    }
+
+    /// Reads the report to its end, and says whether a line was left.
+    #[tactic(auto, using(crate::proofs::CheckLifts::report_advance, crate::proofs::CheckLifts::report_halts, crate::proofs::CheckLifts::may_read_on))]
+    pub fn has_more_lines<S: Source>(&mut self, source: &mut S) -> Result<bool, Halt>
+        requires { MayRead S.LIMIT self.old }
+        ensures some { IfOk result (λ some. IfSome (ahead self.old.report (S.left source.old 2)) (λ bytes. some ≡ is_some (first (lines_of bytes)))) }
+        ensures ended { IfOk result (λ _. IsTrue self.new.report.ended) }
+        ensures advance { Advance self.old self.new
+            (told (S.left source.old) (S.faults source.old) (S.taken source.old) (S.ended source.old))
+            (told (S.left source.new) (S.faults source.new) (S.taken source.new) (S.ended source.new)) }
+        ensures may_read { IfOk result (λ _. MayRead S.LIMIT self.new) }
+        ensures halts { IfErr result (λ halt. ReadHalts S.LIMIT halt self.new
+            (told (S.left source.old) (S.faults source.old) (S.taken source.old) (S.ended source.old))
+            (told (S.left source.new) (S.faults source.new) (S.taken source.new) (S.ended source.new))) }
+        ensures kept { (self.new.originals ≡ self.old.originals) × (self.new.converted ≡ self.old.converted) }
+        ensures others { SameBut 2 (S.left source.old) (S.left source.new) }
+    {
+        match more_lines(&mut self.report, source) {
+            Ok(more) => Ok(more),
+            Err(stop) => Err(Halt::from(stop)),
+        }
+    }
+
+    /// Reads the converted records to their end, and says whether one was left.
+    #[tactic(auto, using(crate::proofs::CheckLifts::converted_advance, crate::proofs::CheckLifts::converted_halts, crate::proofs::CheckLifts::may_read_on))]
+    pub fn has_more_records<S: Source>(&mut self, source: &mut S) -> Result<bool, Halt>
+        requires { MayRead S.LIMIT self.old }
+        ensures some { IfOk result (λ some. IfSome (ahead self.old.converted (S.left source.old 1)) (λ bytes. some ≡ is_some (first (records bytes)))) }
+        ensures ended { IfOk result (λ _. IsTrue self.new.converted.ended) }
+        ensures advance { Advance self.old self.new
+            (told (S.left source.old) (S.faults source.old) (S.taken source.old) (S.ended source.old))
+            (told (S.left source.new) (S.faults source.new) (S.taken source.new) (S.ended source.new)) }
+        ensures may_read { IfOk result (λ _. MayRead S.LIMIT self.new) }
+        ensures halts { IfErr result (λ halt. ReadHalts S.LIMIT halt self.new
+            (told (S.left source.old) (S.faults source.old) (S.taken source.old) (S.ended source.old))
+            (told (S.left source.new) (S.faults source.new) (S.taken source.new) (S.ended source.new))) }
+        ensures kept { (self.new.originals ≡ self.old.originals) × (self.new.report ≡ self.old.report) }
+        ensures others { SameBut 1 (S.left source.old) (S.left source.new) }
+    {
+        match more_records(&mut self.converted, source) {
+            Ok(more) => Ok(more),
+            Err(stop) => Err(Halt::from(stop)),
+        }
+    }
+}
+
+/// Reads the record that a reader has passed.
+fn read_next(alloc: Global, next: NextLine, lines: &Lines) -> Result<Option<RecordRead>, NoMemory>
+    requires given { next ≡ NextLine.Line → lines.now.answer ≡ Some LineStep.Line }
+    requires short { next ≡ NextLine.Line → length lines.now.text ≤ most_bytes }
+    ensures { IfOk result (AreReadAs (met next lines.now.text)) }
+{
+    match next {
+        NextLine::Line => {
+            let read = read_record(alloc, lines.line())?;
+            Ok(Some(read))
+        }
+        NextLine::TooLong => Ok(Some(read_long(alloc))),
+        NextLine::End => Ok(None),
+    }
+}
+
+/// What the line that a reader has passed says of record k.
+fn said_next(
+    alloc: Global,
+    k: u64,
+    next: NextLine,
+    lines: &Lines,
+) -> Result<Option<ReportLine>, NoMemory>
+    requires given { next ≡ NextLine.Line → lines.now.answer ≡ Some LineStep.Line }
+    ensures { IfOk result (FindsSaid k (met next lines.now.text)) }
+{
+    match next {
+        NextLine::Line => said_of(alloc, k, next, lines.line()),
+        NextLine::TooLong => said_of(alloc, k, next, &[]),
+        NextLine::End => said_of(alloc, k, next, &[]),
+    }
+}

@@ -1,0 +1,181 @@
+ghost use Rattle.std.specs.Prelude.{◌≡◌, ◌++◌, ◌↔◌, ℕ, List, Option, OnOk, IfOk, IsTrue, decimal};
+ghost use Rattle.mc_convert.specs.Findings.{is_true, difference_text, finding_text, verdict_line, FindsSaid, IsMapFinding, IsReadAs, IsRefusalFinding, AreReadAs, if_numbered, met};
+
+use crate::record_read::RecordRead;
+use crate::records::NextLine;
+use itoa::Buffer;
+use mc_base::{AtomId, NoMemory, Refusal, Text, Verdict};
+use mc_report::{ReportLine, read_line};
+use mc_same::check_map;
+use std::alloc::Global;
+
+/// What is found for one original record.
+#[derive(Clone, Copy, Debug, PartialEq, Eq)]
+pub enum Finding {
+    /// how original and converted record compare under the map of the report
+    Map(Verdict),
+    /// the original shows the refusal of the report
+    Shown,
+    /// no line of the report speaks of the original
+    Report,
+    /// no converted record is left
+    Missing,
+    /// the original is refused
+    Input,
+    /// the converted record is refused
+    Output,
+    /// the original doesn't show the refusal of the report
+    Refusal,
+}
+
+impl Finding {
+    /// Whether the record is carried over as the report says.
+    pub fn is_true(self) -> bool
+        ensures { result ≡ is_true self }
+    {
+        match self {
+            Finding::Map(Verdict::True) => true,
+            Finding::Shown => true,
+            _ => false,
+        }
+    }
+
+    /// The line that is written of original k.
+    pub fn line(self, alloc: Global, k: u64) -> Result<Text, NoMemory>
+        ensures { IfOk result (λ text. text ≡ verdict_line k self) }
+    {
+        let mut text = Text::new(alloc);
+        push_number(&mut text, k)?;
+        text.push(b' ')?;
+        push_finding(&mut text, self)?;
+        text.push(b'\n')?;
+        Ok(text)
+    }
+}
+
+fn push_number(text: &mut Text, number: u64) -> Result<(), NoMemory>
+    ensures { OnOk result (text.new ≡ text.old ++ decimal number) }
+{
+    let mut buffer = Buffer::new();
+    text.extend(buffer.format(number).as_bytes())
+}
+
+/// Words, and a number behind them.
+fn push_numbered(text: &mut Text, words: &[u8], number: u32) -> Result<(), NoMemory>
+    ensures { OnOk result (text.new ≡ text.old ++ (words.now ++ decimal number)) }
+{
+    text.extend(words)?;
+    push_number(text, number as u64)
+}
+
+fn push_difference(text: &mut Text, verdict: Verdict) -> Result<(), NoMemory>
+    ensures { OnOk result (text.new ≡ text.old ++ difference_text verdict) }
+{
+    match verdict {
+        Verdict::True => text.extend(b"true"),
+        Verdict::Length => text.extend(b"false length"),
+        Verdict::Range(k) => push_numbered(text, b"false range ", k),
+        Verdict::Repeat(k) => push_numbered(text, b"false repeat ", k),
+        Verdict::Atom(k) => push_numbered(text, b"false atom ", k),
+        Verdict::Bonds => text.extend(b"false bonds"),
+        Verdict::Bond(k) => push_numbered(text, b"false bond ", k),
+        Verdict::Centre(k) => push_numbered(text, b"false centre ", k),
+        Verdict::Sides(k) => push_numbered(text, b"false sides ", k),
+    }
+}
+
+fn push_finding(text: &mut Text, finding: Finding) -> Result<(), NoMemory>
+    ensures { OnOk result (text.new ≡ text.old ++ finding_text finding) }
+{
+    match finding {
+        Finding::Map(verdict) => push_difference(text, verdict),
+        Finding::Shown => text.extend(b"true"),
+        Finding::Report => text.extend(b"false report"),
+        Finding::Missing => text.extend(b"false missing"),
+        Finding::Input => text.extend(b"false input"),
+        Finding::Output => text.extend(b"false output"),
+        Finding::Refusal => text.extend(b"false refusal"),
+    }
+}
+
+/// What a line of the report says of record k.
+pub fn said_of(
+    alloc: Global,
+    k: u64,
+    next: NextLine,
+    text: &[u8],
+) -> Result<Option<ReportLine>, NoMemory>
+    ensures { IfOk result (FindsSaid k (met next text.now)) }
+{
+    match next {
+        NextLine::Line => {
+            let said = read_line(alloc, text)?;
+            Ok(if_numbered(said, k))
+        }
+        NextLine::TooLong => Ok(None),
+        NextLine::End => Ok(None),
+    }
+}
+
+/// The same, if it speaks of record k.
+fn if_numbered(said: Option<ReportLine>, k: u64) -> Option<ReportLine>
+    ensures { result ≡ if_numbered said k }
+{
+    match said {
+        Some(line) => { if line.number() == k { Some(line) } else { None } }
+        None => None,
+    }
+}
+
+/// What is found of an original that is said to be written under a map, with the converted record that is next.
+pub fn map_finding(
+    alloc: Global,
+    original: &RecordRead,
+    converted: Option<RecordRead>,
+    map: &[AtomId],
+) -> Result<Finding, NoMemory>
+    ensures { (given : Option (List ℕ)) (next : Option (Option (List ℕ))) → IsReadAs given original.now → AreReadAs next converted
+        → IfOk result (IsMapFinding given next map.now) }
+{
+    match (original, converted) {
+        (_, None) => Ok(Finding::Missing),
+        (RecordRead::Refused(_), Some(_)) => Ok(Finding::Input),
+        (RecordRead::Stands(_), Some(RecordRead::Refused(_))) => Ok(Finding::Output),
+        (RecordRead::Stands(input), Some(RecordRead::Stands(output))) => {
+            let verdict = check_map(alloc, input, &output, map)?;
+            Ok(Finding::Map(verdict))
+        }
+    }
+}
+
+/// What is found of an original that is said to show a refusal.
+pub fn refusal_finding(original: &RecordRead, refusal: &Refusal) -> Finding
+    ensures { (given : Option (List ℕ)) → IsReadAs given original.now → IsRefusalFinding given refusal.now result }
+{
+    match original {
+        RecordRead::Refused(shown) => {
+            if is_same_refusal(shown, refusal) {
+                Finding::Shown
+            } else {
+                Finding::Refusal
+            }
+        }
+        RecordRead::Stands(_) => Finding::Refusal,
+    }
+}
+
+#[tactic(auto, using(crate::proofs::SameRefusal::same_parts))]
+fn is_same_refusal(first: &Refusal, second: &Refusal) -> bool
+    ensures { IsTrue result ↔ (first.now ≡ second.now) }
+{
+    if first.kind == second.kind && first.place == second.place && first.odd == second.odd {
+        return are_same_atoms(first.barrier.as_slice(), second.barrier.as_slice());
+    }
+    false
+}
+
+fn are_same_atoms(first: &[AtomId], second: &[AtomId]) -> bool
+    ensures { IsTrue result ↔ (first.now ≡ second.now) }
+{
+    first == second
+}
