@@ -21,6 +21,8 @@ pub use names::{NameList, input_names};
 pub use status::Status;
 
 #[cfg(test)]
+mod all_small;
+#[cfg(test)]
 mod check_tests;
 #[cfg(test)]
 mod rows;

@@ -6,3 +6,5 @@ pub mod Marked
 pub mod Evenness
 pub mod Rows
 pub mod Labelled
+pub mod Connected
+pub mod PartCount

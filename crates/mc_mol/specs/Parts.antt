@@ -1,5 +1,5 @@
 -- The connected parts of a molecule, and its independent rings (this project's own).
-use Rattle.std.specs.Prelude.{ℕ, zero, suc, ◌+◌, ◌-◌, Bool, true, false, not, ◌&&◌, ◌||◌, List, [], ◌∷◌, ◌==◌, length, if◌then◌else◌}
+use Rattle.std.specs.Prelude.{ℕ, zero, suc, ◌+◌, ◌-◌, Bool, false, not, ◌&&◌, ◌||◌, List, [], ◌∷◌, ◌==◌, length, if◌then◌else◌}
 use Rattle.mc_mol.specs.declared.parts.Bond.{Bond}
 
 -- Some path of bonds leads from one atom to the other: one that leaves the first of these bonds out, or one that

@@ -10,7 +10,7 @@ pub struct Adjacency {
 }
 
 impl Adjacency {
-    ghost use Rattle.std.specs.Prelude.{◌≡◌, ◌≢◌, ◌+◌, ◌^◌, ◌<◌, ◌≤◌, ◌++◌, [], ◌∷◌, ℕ, length, vec_len, vec_capacity, OnOk, OnErr, slice_index_or};
+    ghost use Rattle.std.specs.Prelude.{◌≡◌, ◌≢◌, ◌+◌, ◌^◌, ◌<◌, ◌≤◌, ◌++◌, [], ◌∷◌, ℕ, length, vec_len, vec_capacity, IfOk, OnOk, OnErr, slice_index_or};
     ghost use Rattle.smallvec.specs.SmallVec.{SmallVec as Items, HasRoomFor};
     ghost use Rattle.mc_mol.specs.declared.parts.HalfEdge.{HalfEdge as Half};
 
@@ -20,6 +20,15 @@ impl Adjacency {
         Adjacency {
             lists: Vec::new(alloc),
         }
+    }
+
+    /// Room for the lists of so many atoms.
+    pub fn with_room(alloc: Global, atoms: usize) -> Result<Adjacency, AllocError>
+        ensures { IfOk result (λ adjacency. adjacency.lists.items ≡ []) }
+    {
+        Ok(Adjacency {
+            lists: Vec::with_capacity(alloc, atoms)?,
+        })
     }
 
     /// Takes room for the list of one more atom.

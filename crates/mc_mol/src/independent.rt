@@ -1,6 +1,7 @@
-ghost use Rattle.std.specs.Prelude.{◌≡◌, ℕ, ◌<◌, ◌^◌, ◌==◌, List, [], ◌∷◌, length, get_or, All, IfOk};
+ghost use Rattle.std.specs.Prelude.{◌≡◌, ℕ, ◌<◌, ◌^◌, ◌==◌, Bool, true, List, [], ◌∷◌, length, get_or, All, IfOk};
 ghost use Rattle.mc_mol.specs.declared.parts.Bond.{Bond as Joining};
-ghost use Rattle.mc_mol.specs.Parts.{count_below, independent_rings};
+ghost use Rattle.mc_mol.specs.Molecule.{are_joined};
+ghost use Rattle.mc_mol.specs.Parts.{are_connected, count_below, independent_rings};
 ghost use Rattle.mc_mol.specs.PartLabels.{HasEndsBelow, IsLabelling, renamed};
 
 use crate::Bond;
@@ -81,3 +82,14 @@ fn count_parts(labels: &[u32]) -> u32
     }
     count
 }
+
+/// Connected is the least relation that holds of each atom with itself and leads on along each bond: it
+/// holds of joined atoms, both ways and from path to path, and what is kept along each bond is kept.
+pub fn connected_law()
+    ensures own { (bonds : List Joining) (u : ℕ) → are_connected bonds u u ≡ true }
+    ensures joined { (bonds : List Joining) (u v : ℕ) → are_joined bonds u v ≡ true → are_connected bonds u v ≡ true }
+    ensures back { (bonds : List Joining) (u v : ℕ) → are_connected bonds u v ≡ true → are_connected bonds v u ≡ true }
+    ensures onward { (bonds : List Joining) (u v w : ℕ) → are_connected bonds u v ≡ true → are_connected bonds v w ≡ true → are_connected bonds u w ≡ true }
+    ensures least { (kept : ℕ → Bool) (bonds : List Joining) → ((u v : ℕ) → are_joined bonds u v ≡ true → kept u ≡ true → kept v ≡ true) →
+        (u v : ℕ) → are_connected bonds u v ≡ true → kept u ≡ true → kept v ≡ true }
+{}

@@ -6,10 +6,12 @@ mod independent;
 mod mol;
 mod parts;
 mod permutation;
+mod sums;
 #[cfg(test)]
 mod tests;
 
-pub use independent::independent_rings;
+pub use independent::{connected_law, independent_rings};
 pub use mol::{AddAtom, AddBond, Mol};
 pub use parts::{Atom, Bond, HalfEdge, Sides, Slot};
-pub use permutation::parity;
+pub use permutation::{is_even_permutation, parity};
+pub use sums::bond_sums;

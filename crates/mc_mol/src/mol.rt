@@ -3,7 +3,7 @@ ghost use Rattle.std.specs.List.{list_any};
 
 use crate::adjacency::Adjacency;
 use crate::{Atom, Bond, HalfEdge, Sides, Slot};
-use mc_base::{AtomId, BondId};
+use mc_base::{AtomId, BondId, NoMemory};
 use std::alloc::{AllocError, Global};
 use std::marker::Model;
 
@@ -71,7 +71,7 @@ impl Model for Mol {
 }
 
 impl Mol {
-    ghost use Rattle.std.specs.Prelude.{◌≡◌, ◌≢◌, ◌+◌, ◌<◌, ◌≤◌, ◌++◌, [], ◌∷◌, ◌↔◌, length, OnOk, OnErr, IfOk, Some, None, slice_get, slice_set, Err, true, false};
+    ghost use Rattle.std.specs.Prelude.{◌≡◌, ◌≢◌, ◌+◌, ◌<◌, ◌≤◌, ◌++◌, [], ◌∷◌, ◌↔◌, length, All, OnOk, OnErr, IfOk, Some, None, slice_get, slice_set, Err, true, false};
     ghost use Rattle.mc_mol.specs.Molecule.{are_joined};
     ghost use Rattle.mc_mol.specs.WellFormed.{IsBond, IsMolecule, IsPlaceList, SidesFit};
     ghost use Rattle.mc_mol.specs.HalfEdges.{half_edges, AllHaveTwins};
@@ -87,6 +87,19 @@ impl Mol {
             sides: Vec::new(alloc),
             adjacency: Adjacency::new(alloc),
         }
+    }
+
+    /// The molecule with no atoms, with room for so many atoms and bonds.
+    pub fn with_room(alloc: Global, atoms: usize, bonds: usize) -> Result<Mol, NoMemory>
+        ensures { IfOk result (λ mol. mol ≡ record { atoms = []; bonds = []; centres = []; sides = [] }) }
+    {
+        Ok(Mol {
+            atoms: Vec::with_capacity(alloc, atoms)?,
+            bonds: Vec::with_capacity(alloc, bonds)?,
+            centres: Vec::with_capacity(alloc, atoms)?,
+            sides: Vec::with_capacity(alloc, bonds)?,
+            adjacency: Adjacency::with_room(alloc, atoms)?,
+        })
     }
 
     pub fn atom_count(&self) -> u32
@@ -117,6 +130,15 @@ impl Mol {
         ensures well_formed { IsBond (length self.now.atoms) result }
     {
         self.bonds[b.0 as usize]
+    }
+
+    /// All bonds, in the order of their numbers.
+    pub fn bonds(&self) -> &[Bond]
+        ensures value { result.now ≡ self.now.bonds }
+        ensures few { length result.now ≤ 999 }
+        ensures well_formed { All (IsBond (length self.now.atoms)) result.now }
+    {
+        &self.bonds
     }
 
     pub fn bonds_of(&self, a: AtomId) -> &[HalfEdge]

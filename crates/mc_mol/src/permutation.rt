@@ -16,11 +16,19 @@ pub fn parity(p: &[Slot; 4], q: &[Slot; 4]) -> Option<bool>
     if !all_stand_in(p, q) {
         return None;
     }
+    Some(is_even_permutation(p, q))
+}
+
+/// Whether one list of places, as a permutation of the other, has an even number of inversions. Unlike
+/// `parity` it may be asked of any two lists.
+pub fn is_even_permutation(p: &[Slot; 4], q: &[Slot; 4]) -> bool
+    ensures { result ≡ is_even_permutation p.now q.now }
+{
     let first = place_in(p, q[0]);
     let second = place_in(p, q[1]);
     let third = place_in(p, q[2]);
     let fourth = place_in(p, q[3]);
-    Some(inversions(first, second, third, fourth) % 2 == 0)
+    inversions(first, second, third, fourth) % 2 == 0
 }
 
 /// Whether a slot is one of a list.

@@ -78,6 +78,19 @@ fn parity_counts_the_rest_as_a_place(rt: HostRuntime) -> Result<(), Fail> {
     Ok(())
 }
 
+// The rest counts as a place like any other.
+#[test]
+fn an_exchange_is_odd(rt: HostRuntime) -> Result<(), Fail> {
+    let at = |a: u32| Slot::At(AtomId(a));
+    let places = [at(0), Slot::Rest, at(1), at(2)];
+    let exchanged = [Slot::Rest, at(0), at(1), at(2)];
+    let turned = [at(0), at(1), at(2), Slot::Rest];
+    assert!(rt; is_even_permutation(&places, &places));
+    assert!(rt; !is_even_permutation(&places, &exchanged));
+    assert!(rt; is_even_permutation(&places, &turned));
+    Ok(())
+}
+
 fn bond(first: u32, second: u32) -> Bond
     ensures first { result.first.0 ≡ first }
     ensures second { result.second.0 ≡ second }

@@ -12,15 +12,15 @@ use Rattle.mc_mol.specs.declared.parts.Bond.{Bond}
 use Rattle.mc_mol.specs.declared.parts.Sides.{Sides}
 use Rattle.mc_mol.specs.declared.parts.Slot.{Slot}
 use Rattle.mc_mol.specs.Molecule.{joins, are_joined, touches}
+use Rattle.mc_mol.specs.Parts.{are_connected}
 use Rattle.mc_mol.proofs.Halves.{same_test, other_test}
+use Rattle.mc_mol.proofs.Connected.{Leads, connected_back}
 use Rattle.mc_rings.specs.Distances.{Mark}
-use Rattle.mc_rings.specs.Parts.{Walk, AreConnected}
 use Rattle.mc_rings.specs.Forests.{Parent}
 use Rattle.mc_rings.specs.Blocks.{BlockOf, Tree, IsTree, IsEnd, block_key}
 use Rattle.mc_rings.specs.Counts.{AreBelow}
 use Rattle.mc_rings.specs.BlockOrder.{times, EndOfBlock, IsBlockOrder}
 use Rattle.mc_rings.proofs.Levels.{made}
-use Rattle.mc_rings.proofs.RingSizes.{joined_back}
 use Rattle.mc_rings.proofs.Forests.{same_option, or_cases, joins_cases}
 use Rattle.mc_rings.proofs.Parts.{TopOf, same_top, top_of, top_connected, up_connected, parent_cases, order_full}
 use Rattle.mc_rings.proofs.LeastPlaces.{one_mark}
@@ -198,22 +198,18 @@ order_within t is order permuted j y at_y =
     let c = is.forest.found.place_count in
     omega arith
 
-walk_back : (bonds : List Bond) (steps x y z : ℕ) → Walk bonds steps x y → are_joined bonds x z ≡ true → (n : ℕ) × (Walk bonds n y z)
-walk_back bonds zero x y z same joined = (1, (z, subst (λ (m : ℕ). are_joined bonds m z ≡ true) same joined, refl))
-walk_back bonds (suc steps) x y z (w, step, walk) joined =
-    let rest = walk_back bonds steps w y x walk (joined_back bonds x w step) in
-    longer rest.0 y rest.1
+not_led : (bonds : List Bond) (x y : ℕ) → (Leads bonds x y → ⊥) → are_connected bonds x y ≡ false
+not_led bonds x y none = not_true (are_connected bonds x y) none
   where
-    longer : (n y : ℕ) → Walk bonds n y x → (k : ℕ) × (Walk bonds k y z)
-    longer zero y same = (1, (z, subst (λ (m : ℕ). are_joined bonds m z ≡ true) (sym same) joined, refl))
-    longer (suc n) y (v, step, walk) = let h = longer n v walk in (suc h.0, (v, step, h.1))
+    not_true : (t : Bool) → (t ≡ true → ⊥) → t ≡ false
+    not_true true h = absurd (h refl)
+    not_true false h = refl
 
-connected_back : (bonds : List Bond) (steps x y : ℕ) → Walk bonds steps x y → AreConnected bonds y x
-connected_back bonds zero x y same = (0, sym same)
-connected_back bonds (suc steps) x y (z, step, walk) = walk_back bonds steps z y x walk (joined_back bonds x z step)
+led_not : (bonds : List Bond) (x y : ℕ) → Leads bonds x y → are_connected bonds x y ≡ false → ⊥
+led_not bonds x y leads none = cc
 
 part_first : (t : Tree) → IsTree t → (order : List AtomId) → Sorted t order → (i : ℕ) (x : AtomId) → x.0 < t.atoms → slice_get order i ≡ Some x
-    → (slice_get t.above x.0 ≡ Some None) ↔ ((j : ℕ) (y : AtomId) → j < i → slice_get order j ≡ Some y → ¬ AreConnected t.bonds y.0 x.0)
+    → (slice_get t.above x.0 ≡ Some None) ↔ ((j : ℕ) (y : AtomId) → j < i → slice_get order j ≡ Some y → are_connected t.bonds y.0 x.0 ≡ false)
 part_first t is order s i x x_in at_x = (first, none)
   where
     top_is : (y : ℕ) → y < t.atoms → slice_get t.above y ≡ Some None → TopOf t.parents y y
@@ -225,19 +221,19 @@ part_first t is order s i x x_in at_x = (first, none)
       | inr some ↦ let k = key_above t.above y.0 some.0 some.1 in absurd (omega arith)
     ]
 
-    first : slice_get t.above x.0 ≡ Some None → (j : ℕ) (y : AtomId) → j < i → slice_get order j ≡ Some y → ¬ AreConnected t.bonds y.0 x.0
-    first nothing j y less at_y connected =
+    first : slice_get t.above x.0 ≡ Some None → (j : ℕ) (y : AtomId) → j < i → slice_get order j ≡ Some y → are_connected t.bonds y.0 x.0 ≡ false
+    first nothing j y less at_y = not_led t.bonds y.0 x.0 (λ leads. (
         let y_in = order_within t is order s.permuted j y at_y in
         let rise = keys_rise t order s.sorted j i y x (omega arith) at_y at_x in
         let key = key_none t.above x.0 nothing in
         let y_none = none_before y y_in (omega arith) in
-        let theirs = top_connected t.bonds t.atoms t.order t.places t.parents t.roots is.forest is.forest.fit connected.0 y.0 x.0 y.0 connected.1 (top_is y.0 y_in y_none) in
+        let theirs = top_connected t.bonds t.atoms t.order t.places t.parents t.roots is.forest is.forest.fit y.0 x.0 y.0 leads (top_is y.0 y_in y_none) in
         let same = same_top t.parents x.0 y.0 x.0 theirs (top_is x.0 x_in nothing) in
         let twice = two_times order x.0 j i less (at_y ∙ ap (λ (n : ℕ). Some (made n)) same) at_x in
         let once = once_in t is order s.permuted x.0 x_in in
-        omega arith
+        absurd (omega arith)))
 
-    none : ((j : ℕ) (y : AtomId) → j < i → slice_get order j ≡ Some y → ¬ AreConnected t.bonds y.0 x.0) → slice_get t.above x.0 ≡ Some None
+    none : ((j : ℕ) (y : AtomId) → j < i → slice_get order j ≡ Some y → are_connected t.bonds y.0 x.0 ≡ false) → slice_get t.above x.0 ≡ Some None
     none apart = elim (above_cases t.above x.0 (let c = is.blocked.count in omega arith)) [
       | inl nothing ↦ nothing
       | inr some ↦
@@ -249,7 +245,7 @@ part_first t is order s i x x_in at_x = (first, none)
           let place = found_in t is order s.permuted top.0 r_in in
           let key = key_above t.above x.0 some.0 some.1 in
           let root_key = key_none t.above top.0 (root_none t is top.0 r_in top.1.root) in
-          absurd (apart place.0 (made top.0) (before place.0 top.0 place.1 some.0 key root_key) place.1 (connected_back t.bonds way.0.0 x.0 top.0 way.0.1))
+          absurd (led_not t.bonds top.0 x.0 (connected_back t.bonds x.0 top.0 way.0) (apart place.0 (made top.0) (before place.0 top.0 place.1 some.0 key root_key) place.1))
     ]
       where
         before : (j r : ℕ) → slice_get order j ≡ Some (made r) → (k : ℕ) → block_key (slice_get t.above x.0) ≡ k + 1 → block_key (slice_get t.above r) ≡ 0 → j < i

@@ -7,11 +7,13 @@ use Rattle.mc_base.specs.declared.ids.AtomId.{AtomId}
 use Rattle.mc_mol.specs.declared.parts.Bond.{Bond}
 use Rattle.mc_mol.specs.Molecule.{Molecule, joins, are_joined}
 use Rattle.mc_mol.specs.WellFormed.{IsBond}
+use Rattle.mc_mol.specs.Parts.{independent_rings}
 use Rattle.mc_mol.proofs.Lists.{All-head, All-tail}
+use Rattle.mc_mol.proofs.Connected.{Leads, connected_self, connected_on, joined_connected, kept_along}
+use Rattle.mc_mol.proofs.PartCount.{IsOneOfEachPart, ones_counted}
 use Rattle.mc_rings.specs.Distances.{Mark}
 use Rattle.mc_rings.specs.Levels.{unmarked}
 use Rattle.mc_rings.specs.Forests.{Parent, Up, IsAbove, has_place, inner_bonds, Found, IsForest}
-use Rattle.mc_rings.specs.Parts.{Walk, AreConnected, IsOneOfEachPart, IsIndependent}
 use Rattle.mc_rings.proofs.Levels.{made}
 use Rattle.mc_rings.proofs.RingSizes.{joined_back}
 use Rattle.mc_rings.proofs.Forests.{same_option, or_cases, joins_cases}
@@ -119,27 +121,28 @@ top_joined bonds n order places parents roots is all x y r joined top =
       ]
     ]
 
+-- connected atoms have one root
 pub top_connected : (bonds : List Bond) (n : ℕ) (order : List AtomId) (places : List (Option ℕ)) (parents : List (Option AtomId)) (roots : List AtomId) → IsForest bonds n order places parents roots
-    → All (IsBond n) bonds → (steps x y r : ℕ) → Walk bonds steps x y → TopOf parents x r → TopOf parents y r
-top_connected bonds n order places parents roots is all zero x y r same top = subst (λ (k : ℕ). TopOf parents k r) same top
-top_connected bonds n order places parents roots is all (suc steps) x y r (z, joined, walk) top =
-    top_connected bonds n order places parents roots is all steps z y r walk (top_joined bonds n order places parents roots is all x z r joined top)
+    → All (IsBond n) bonds → (x y r : ℕ) → Leads bonds x y → TopOf parents x r → TopOf parents y r
+top_connected bonds n order places parents roots is all x y r leads top =
+    kept_along (λ (z : ℕ). TopOf parents z r) bonds (λ u v joined at_u. top_joined bonds n order places parents roots is all u v r joined at_u) x y leads top
 
--- the way up is a walk
+-- an atom is connected to those above it
 pub up_connected : (bonds : List Bond) (n : ℕ) (order : List AtomId) (places : List (Option ℕ)) (parents : List (Option AtomId)) (roots : List AtomId) → Found bonds n order places parents roots
-    → (k x a i : ℕ) → Up parents k x a → Mark places x i → (AreConnected bonds x a) × ((j : ℕ) × (Mark places a j))
-up_connected bonds n order places parents roots is zero x a i same at = ((0, same), (i, subst (λ (m : ℕ). Mark places m i) same at))
+    → (k x a i : ℕ) → Up parents k x a → Mark places x i → (Leads bonds x a) × ((j : ℕ) × (Mark places a j))
+up_connected bonds n order places parents roots is zero x a i same at =
+    (subst (λ (m : ℕ). Leads bonds x m) same (connected_self bonds x), (i, subst (λ (m : ℕ). Mark places m i) same at))
 up_connected bonds n order places parents roots is (suc k) x a i (p, parent, up) at =
     let child = is.parent x p parent in
     let rest = up_connected bonds n order places parents roots is k p a child.above up child.placed_above in
-    ((suc rest.0.0, (p, joined_back bonds p x child.joined, rest.0.1)), rest.1)
+    (connected_on bonds x p a (joined_connected bonds x p (joined_back bonds p x child.joined)) rest.0, rest.1)
 
 pub roots_one_of_each : (m : Molecule) (order : List AtomId) (places : List (Option ℕ)) (parents : List (Option AtomId)) (roots : List AtomId)
-    → IsForest m.bonds (length m.atoms) order places parents roots → All (IsBond (length m.atoms)) m.bonds → IsOneOfEachPart m roots
+    → IsForest m.bonds (length m.atoms) order places parents roots → All (IsBond (length m.atoms)) m.bonds → IsOneOfEachPart m.bonds (length m.atoms) roots
 roots_one_of_each m order places parents roots is all = record {
   within = λ i a e. let f = is.found.root_found i a e in let h = slice_get_within places a.0 (Some f.0) f.1 in let c = is.found.place_count in omega arith;
-  apart = λ i j a b less e f connected. is.found.different i j a b less e f
-      (same_top parents b.0 a.0 b.0 (top_connected m.bonds (length m.atoms) order places parents roots is all connected.0 a.0 b.0 a.0 connected.1 (own i a e)) (own j b f));
+  apart = λ i j a b less e f leads. is.found.different i j a b less e f
+      (same_top parents b.0 a.0 b.0 (top_connected m.bonds (length m.atoms) order places parents roots is all a.0 b.0 a.0 leads (own i a e)) (own j b f));
   every = λ x within.
       let at = is.all x within in
       let top = top_of m.bonds (length m.atoms) order places parents roots is.found x at.0 at.1 in
@@ -185,6 +188,10 @@ pub few_roots : (bonds : List Bond) (n : ℕ) (order : List AtomId) (places : Li
     → length roots ≤ n
 few_roots bonds n order places parents roots is = let full = order_full bonds n order places parents roots is in let few = is.found.few_roots in omega arith
 
+-- the roots count the parts
 pub independent_of : (m : Molecule) (order : List AtomId) (places : List (Option ℕ)) (parents : List (Option AtomId)) (roots : List AtomId) (rings : ℕ)
-    → IsForest m.bonds (length m.atoms) order places parents roots → All (IsBond (length m.atoms)) m.bonds → rings + length m.atoms ≡ length m.bonds + length roots → IsIndependent m rings
-independent_of m order places parents roots rings is all e = record { ones = roots; each_part = roots_one_of_each m order places parents roots is all; count = e }
+    → IsForest m.bonds (length m.atoms) order places parents roots → All (IsBond (length m.atoms)) m.bonds → rings + length m.atoms ≡ length m.bonds + length roots
+    → rings ≡ independent_rings m.bonds (length m.atoms)
+independent_of m order places parents roots rings is all e =
+    let parts = ones_counted m.bonds (length m.atoms) roots (roots_one_of_each m order places parents roots is all) in
+    omega arith

@@ -1,9 +1,9 @@
 -- An order of the atoms block by block (this project's own). A block is the bonds with one block number.
-use Rattle.std.specs.Prelude.{◌≡◌, ◌↔◌, ℕ, ◌<◌, ◌⊎◌, ◌==◌, true, List, Option, Some, None, if◌then◌else◌, length, slice_get, sum_by}
+use Rattle.std.specs.Prelude.{◌≡◌, ◌↔◌, ℕ, ◌<◌, ◌⊎◌, ◌==◌, true, false, List, Option, Some, None, if◌then◌else◌, length, slice_get, sum_by}
 use Rattle.mc_base.specs.declared.ids.AtomId.{AtomId}
 use Rattle.mc_mol.specs.declared.parts.Bond.{Bond}
 use Rattle.mc_mol.specs.Molecule.{Molecule, touches}
-use Rattle.mc_rings.specs.Parts.{AreConnected}
+use Rattle.mc_mol.specs.Parts.{are_connected}
 
 -- how often the atom stands in a list
 abbrev pub times : ℕ → List AtomId → ℕ
@@ -34,7 +34,7 @@ pub record IsBlockOrder (m : Molecule) (blocks : List ℕ) (order firsts : List 
   pub above_end : (x block : ℕ) → Above above x block → EndOfBlock m.bonds blocks block x
   -- an atom has no block above it exactly where it is the first of its connected part in the order
   pub part_first : (i : ℕ) (x : AtomId) → slice_get order i ≡ Some x
-      → (slice_get above x.0 ≡ Some None) ↔ ((j : ℕ) (y : AtomId) → j < i → slice_get order j ≡ Some y → ¬ AreConnected m.bonds y.0 x.0)
+      → (slice_get above x.0 ≡ Some None) ↔ ((j : ℕ) (y : AtomId) → j < i → slice_get order j ≡ Some y → are_connected m.bonds y.0 x.0 ≡ false)
   -- each end of a bond of a block is the block's first atom or has this block above it
   pub ends : (block x : ℕ) → EndOfBlock m.bonds blocks block x → (slice_get firsts block ≡ Some (record { 0 = x })) ⊎ Above above x block
   -- the atoms that have the same block above them follow one another in the order, behind that block's first atom

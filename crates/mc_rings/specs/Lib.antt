@@ -1,5 +1,4 @@
 pub mod ClosedPaths
-pub mod Parts
 pub mod Paths
 pub mod Distances
 pub mod Levels

@@ -3,8 +3,8 @@ use Rattle.std.specs.Prelude.{◌≡◌, ◌≢◌, ◌↔◌, ℕ, List, Option
 use Rattle.mc_base.specs.declared.ids.AtomId.{AtomId}
 use Rattle.mc_mol.specs.declared.parts.Bond.{Bond}
 use Rattle.mc_mol.specs.Molecule.{Molecule}
+use Rattle.mc_mol.specs.Parts.{independent_rings}
 use Rattle.mc_rings.specs.ClosedPaths.{RingSizeAt, ShareClosedPath}
-use Rattle.mc_rings.specs.Parts.{IsIndependent}
 use Rattle.mc_rings.specs.BlockOrder.{IsBlockOrder}
 
 -- for each bond its ring size, or none, and its block number; the number of independent rings; and the block order: the
@@ -28,5 +28,5 @@ pub record AreRingsOf (m : Molecule) (rings : RingList) : Type 0 where
   pub count : length rings.sizes ≡ length m.bonds
   pub sizes : (k : ℕ) (size : Option ℕ) → slice_get rings.sizes k ≡ Some size → RingSizeAt m.bonds k size
   pub blocks : AreBlocks m.bonds rings.blocks
-  pub independent : IsIndependent m rings.independent
+  pub independent : rings.independent ≡ independent_rings m.bonds (length m.atoms)
   pub order : IsBlockOrder m rings.blocks rings.order rings.firsts rings.above

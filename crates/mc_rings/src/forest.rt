@@ -1,6 +1,6 @@
 ghost use Rattle.std.specs.Prelude.{◌≡◌, ◌<◌, length, IfOk};
+ghost use Rattle.mc_mol.specs.Parts.{independent_rings};
 ghost use Rattle.mc_rings.specs.Forests.{IsForest};
-ghost use Rattle.mc_rings.specs.Parts.{IsIndependent};
 
 use mc_base::{AtomId, NoMemory};
 use mc_mol::Mol;
@@ -182,7 +182,7 @@ pub fn forest_of(alloc: Global, mol: &Mol) -> Result<Forest, NoMemory>
 /// The number of bonds less the number of atoms plus the number of connected parts.
 pub fn independent_count(mol: &Mol, forest: &Forest) -> u32
     requires { IsForest mol.now.bonds (length mol.now.atoms) forest.now.order.items forest.now.places.items forest.now.parents.items forest.now.roots.items }
-    ensures { IsIndependent mol.now result }
+    ensures { result ≡ independent_rings mol.now.bonds (length mol.now.atoms) }
 {
     let atoms = mol.atom_count();
     mol.bond_count() + forest.roots.len() as u32 - atoms

@@ -5,6 +5,8 @@ mod block_order;
 mod block_tree;
 mod centres;
 mod forest;
+#[cfg(test)]
+mod large;
 mod lows;
 #[cfg(test)]
 mod order_checks;

@@ -53,7 +53,7 @@ pub fn molecule(
 }
 
 /// The ring size of each bond, 0 where there is none, is as listed.
-fn check_sizes(
+pub fn check_sizes(
     rt: &(impl Abort + AllocGlobal),
     mol: &Mol,
     sizes: &[u32],

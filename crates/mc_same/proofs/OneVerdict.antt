@@ -1,11 +1,10 @@
 -- A verdict is one: each says that the points before its own hold, and that its own fails.
-use Rattle.std.proofs.Common.{arith, ◌≡◌, ◌∙◌, ◌+◌, ◌-◌, ◌<◌, ◌≤◌, ◌⊎◌, ℕ, zero, suc, List, [], ◌∷◌, length, refl, ap, sym, subst, inl, inr}
+use Rattle.std.proofs.Common.{arith, ◌≡◌, ◌-◌, ◌<◌, ℕ, zero, suc, List, [], ◌∷◌, length, refl, ap, inl, inr}
 use Rattle.std.proofs.lemmas.Bool.{cases_eq, cases_lt}
 use Rattle.mc_base.specs.declared.ids.AtomId.{AtomId}
 use Rattle.mc_base.specs.declared.verdict.Verdict.{Verdict}
 use Rattle.mc_base.specs.declared.verdict.Verdict.TheVariants.{True, Length, Range, Repeat, Atom, Bonds, Bond, Centre, Sides}
 use Rattle.mc_mol.specs.Molecule.{Molecule}
-use Rattle.mc_mol.specs.Same.{Same}
 use Rattle.mc_same.specs.Differences.{IsVerdict, SameLength, InRange, IsNew, SameAtom, SameBond, CentreAgrees, SidesAgree, Holds, FailsFirst}
 
 -- two numbers at which a rule fails first are one

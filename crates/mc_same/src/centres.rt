@@ -5,9 +5,8 @@ ghost use Rattle.mc_mol.specs.WellFormed.{IsMolecule};
 ghost use Rattle.mc_same.specs.Carried.{HasEntry, HaveEntries};
 ghost use Rattle.mc_same.specs.Differences.{CentreAgrees, FirstFailure, Holds, InRange};
 
-use crate::even::is_even_permutation;
 use mc_base::AtomId;
-use mc_mol::{Mol, Slot};
+use mc_mol::{Mol, Slot, is_even_permutation};
 
 fn carried(map: &[AtomId], slot: Slot) -> Slot
     requires { HasEntry (length map.now) slot }

@@ -6,7 +6,6 @@ mod atoms;
 mod bonds;
 mod centres;
 mod check;
-mod even;
 mod sides;
 
 pub use check::{check_map, verdict_law};

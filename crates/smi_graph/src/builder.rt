@@ -120,21 +120,21 @@ impl Builder {
     ghost use Rattle.smi_graph.specs.RingRules.{is_clash, is_pair_again};
     ghost use Rattle.smi_graph.specs.Reading.{Reads};
 
-    /// Of no tokens.
-    pub fn new(alloc: Global) -> Builder
-        ensures reads { Reads result [] }
-        ensures tokens { result.tokens ≡ 0 }
-        ensures count { result.count ≡ 0 }
+    /// Of no tokens, with room for so many bonds.
+    pub fn with_room(alloc: Global, bonds: usize) -> Result<Builder, AllocError>
+        ensures reads { IfOk result (λ builder. Reads builder []) }
+        ensures tokens { IfOk result (λ builder. builder.tokens ≡ 0) }
+        ensures count { IfOk result (λ builder. builder.count ≡ 0) }
     {
-        Builder {
-            bonds: Vec::new(alloc),
+        Ok(Builder {
+            bonds: Vec::with_capacity(alloc, bonds)?,
             tokens: 0,
             count: 0,
             last: None,
             latest: None,
             returns: Vec::new(alloc),
             ends: Vec::new(alloc),
-        }
+        })
     }
 
     /// A ring number that stands here.

@@ -90,7 +90,7 @@ pub fn read_roles(alloc: Global, roles: &[Role]) -> Result<Reading, AllocError>
     requires { length roles.now < 2 ^ 32 - 1 }
     ensures { IfOk result (IsReadingOf roles.now) }
 {
-    let mut builder = Builder::new(alloc);
+    let mut builder = Builder::with_room(alloc, roles.len())?;
     let mut clash = None;
     let mut pair = None;
     for (i, role) in roles.iter().enumerate() {

@@ -34,7 +34,7 @@ pub fn roles_of(alloc: Global, tokens: &[Token]) -> Result<Vec<Role>, AllocError
     ensures roles { IfOk result (λ found. found.items ≡ roles tokens.now) }
     ensures count { IfOk result (λ found. length found.items ≡ length tokens.now) }
 {
-    let mut found = Vec::new(alloc);
+    let mut found = Vec::with_capacity(alloc, tokens.len())?;
     for token in tokens {
         found.push(role_of(token.kind))?;
     }

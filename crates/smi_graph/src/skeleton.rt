@@ -98,7 +98,7 @@ fn push_atom(atoms: &mut Vec<SkelAtom>, kind: TokenKind, span: Span) -> Result<(
 pub fn atoms_of(alloc: Global, tokens: &[Token]) -> Result<Vec<SkelAtom>, AllocError>
     ensures { IfOk result (λ atoms. atoms.items ≡ map held_atom (atoms_of tokens.now)) }
 {
-    let mut atoms = Vec::new(alloc);
+    let mut atoms = Vec::with_capacity(alloc, tokens.len())?;
     for token in tokens {
         push_atom(&mut atoms, token.kind, token.span)?;
     }

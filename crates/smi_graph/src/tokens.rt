@@ -17,7 +17,7 @@ pub fn tokens_of(alloc: Global, text: &[u8]) -> Result<Vec<Token>, Stop>
     ensures err { IfErr result (IsBroken text.now) }
 {
     let mut lexer = Lexer::new(text);
-    let mut found = Vec::new(alloc);
+    let mut found = Vec::with_capacity(alloc, text.len())?;
     loop {
         match lexer.next() {
             LexStep::Token(token) => found.push(token)?,

@@ -53,7 +53,7 @@ pub fn atoms_with(
     ensures atoms { IfOk result (λ found. found.items ≡ atoms_with bonds.now 0 atoms.now) }
     ensures count { IfOk result (λ found. length found.items ≡ length atoms.now) }
 {
-    let mut found = Vec::new(alloc);
+    let mut found = Vec::with_capacity(alloc, atoms.len())?;
     for (k, atom) in atoms.iter().enumerate() {
         found.push(meant_atom(*atom, sums[k]))?;
     }

@@ -6,10 +6,8 @@ mod faults;
 mod line;
 mod molecule;
 mod read;
-mod sums;
 
 pub use read::{SmilesRead, read_smiles};
-pub use sums::bond_sums;
 
 #[cfg(test)]
 mod tests;

@@ -48,7 +48,7 @@ pub fn molecule(alloc: Global, atoms: &[Atom], bonds: &[Bond]) -> Result<Mol, No
     requires sound { AreBonds (length atoms.now) bonds.now }
     ensures { IfOk result (λ mol. mol ≡ without_stereo atoms.now bonds.now) }
 {
-    let mut mol = Mol::new(alloc);
+    let mut mol = Mol::with_room(alloc, atoms.len(), bonds.len())?;
     add_atoms(&mut mol, atoms)?;
     add_bonds(&mut mol, bonds)?;
     Ok(mol)

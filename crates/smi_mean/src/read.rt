@@ -9,9 +9,8 @@ use crate::atoms::atoms_with;
 use crate::faults::{first_hydrogen_on_hydrogen, first_overvalent};
 use crate::line::text_end;
 use crate::molecule::molecule;
-use crate::sums::bond_sums;
 use mc_base::{Kind, Refusal, Span, Stop};
-use mc_mol::Mol;
+use mc_mol::{Mol, bond_sums};
 use smi_graph::{Skeleton, read_skeleton};
 use std::alloc::Global;
 

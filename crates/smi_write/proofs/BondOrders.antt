@@ -1,15 +1,14 @@
--- The order of the bond between two atoms, by the half-edges of one of them; bond sums by one bond more.
-use Rattle.std.proofs.Common.{◌≡◌, ◌≢◌, ℕ, zero, suc, ◌+◌, ◌≤◌, ◌<◌, List, [], ◌∷◌, length, take, drop, get_or, slice_get, Bool, true, false, Some, refl, ap, sym, ◌∙◌, subst, inl, inr, arith}
-use Rattle.std.specs.Prelude.{◌==◌, ◌&&◌, ◌||◌, if◌then◌else◌, sum_by, AllPairs}
+-- The order of the bond between two atoms, by the half-edges of one of them.
+use Rattle.std.proofs.Common.{◌≡◌, ◌≢◌, ℕ, zero, suc, ◌≤◌, ◌<◌, List, [], ◌∷◌, length, drop, get_or, slice_get, Bool, true, false, Some, refl, ap, sym, ◌∙◌, subst, inl, inr, arith}
+use Rattle.std.specs.Prelude.{◌==◌, ◌&&◌, ◌||◌, if◌then◌else◌, AllPairs}
 use Rattle.std.specs.List.{list_any}
 use Rattle.std.proofs.lemmas.Bool.{false≢true}
-use Rattle.std.proofs.lemmas.List.{take_more, drop_all}
-use Rattle.std.proofs.lemmas.List.Sums.{sum_by-append}
+use Rattle.std.proofs.lemmas.List.{drop_all}
 use Rattle.std.proofs.lemmas.Option.{slice_get-get_or, slice_get_within, get_or_from_slice_get}
 use Rattle.mc_base.specs.declared.ids.AtomId.{AtomId}
 use Rattle.mc_mol.specs.declared.parts.Bond.{Bond}
 use Rattle.mc_mol.specs.declared.parts.HalfEdge.{HalfEdge}
-use Rattle.mc_mol.specs.Molecule.{Molecule, joins, touches, are_joined, bond_sum}
+use Rattle.mc_mol.specs.Molecule.{Molecule, joins, are_joined}
 use Rattle.mc_mol.specs.WellFormed.{IsMolecule}
 use Rattle.mc_mol.specs.HalfEdges.{half_edges, AllHaveTwins}
 use Rattle.mc_mol.proofs.Halves.{are_joined-half_edges}
@@ -67,23 +66,6 @@ half_order m a place v half bond is twins at to at_bond =
 
 pub no_half_order : (m : Molecule) (u v : ℕ) → u ≢ v → false ≡ list_any (λ (half : HalfEdge). half.to.0 == v) (half_edges m u) → 1 ≡ order_between m.bonds u v
 no_half_order m u v ne none = sym (order_none m.bonds u v (sym (are_joined-half_edges m u v ne) ∙ sym none))
-
--- Bond sums
-
-one_bond : (f : Bond → ℕ) (b : Bond) → sum_by f (b ∷ []) ≡ f b
-one_bond f b = omega arith
-
-pub sum_more : (bonds : List Bond) (i u : ℕ) (bond : Bond) → slice_get bonds i ≡ Some bond → bond_sum (take (i + 1) bonds) u ≡ bond_sum (take i bonds) u + (if touches bond u then bond.order else 0)
-sum_more bonds i u bond at =
-    let f : Bond → ℕ = λ b. if touches b u then b.order else 0 in
-    ap (λ (x : List Bond). bond_sum x u) (take_more bonds i bond (slice_get_within bonds i bond at))
-    ∙ sum_by-append (λ (b : Bond). if touches b u then b.order else 0) (take i bonds) (get_or bonds i bond ∷ [])
-    ∙ ap (λ (x : Bond). bond_sum (take i bonds) u + sum_by (λ (b : Bond). if touches b u then b.order else 0) (x ∷ [])) (get_or_from_slice_get bonds i bond bond at)
-    ∙ ap (λ (n : ℕ). bond_sum (take i bonds) u + n) (one_bond (λ (b : Bond). if touches b u then b.order else 0) bond)
-
-pub if_at_most : (t : Bool) (n most : ℕ) → n ≤ most → (if t then n else 0) ≤ most
-if_at_most true n most le = le
-if_at_most false n most le = omega arith
 
 -- the half-edge at a place of a list that is an atom's
 pub half_at : (halves list : List HalfEdge) (k : ℕ) (d : HalfEdge) → halves ≡ list → k < length halves → slice_get list k ≡ Some (get_or halves k d)

@@ -4,7 +4,6 @@ mod Counting
 mod Once
 mod Shape
 mod OrderLaw
-mod OpenLaw
 mod RingLaw
 mod Pairs
 mod RoleText

@@ -9,13 +9,15 @@ use Rattle.smi_graph.specs.declared.role.Role.{Role}
 use Rattle.smi_graph.specs.declared.role.Role.TheVariants.{Atom, Bond, Ring, Dot, Enter, Leave}
 use Rattle.smi_graph.specs.Order.{depth, depth_behind, holds_ring, is_ring, is_stray_bond, may_follow, latest, is_misplaced}
 use Rattle.smi_graph.specs.Bonds.{atom_count, predecessor, mark_of, order_of, bond_between, chain_bond, bonds_of}
+use Rattle.smi_graph.specs.Reading.{open_once_closed, return_atoms}
 use Rattle.smi_graph.specs.RingRules.{is_clash}
+use Rattle.smi_graph.proofs.OpenLaw.{predecessor_is}
+use Rattle.smi_graph.proofs.ReadingSteps.{open_behind}
 use Rattle.smi_mean.specs.RingNumbers.{Pair, has, onto_all, active, closing, opening}
 use Rattle.smi_mean.specs.Written.{symbol_of}
 use Rattle.smi_write.specs.Nested.{IsNested}
 use Rattle.smi_write.proofs.Along.{Along}
 use Rattle.smi_write.proofs.Least.{test_other, test_same}
-use Rattle.smi_write.proofs.OpenLaw.{open_once_closed, return_atoms, predecessor_is, open_behind}
 use Rattle.smi_write.proofs.RoleText.{mark_roles, closed_roles, opened_roles, ring_roles, role_if_not, before_roles, text_roles, said, links, parent_bond, bonds_from}
 use Rattle.smi_write.proofs.RingSteps.{Agrees, rings_agree, rings_bonds, rings_clash, onto_append}
 use Rattle.smi_write.proofs.Shape.{nested_tail, no_gap, pending, pending_nil, pending_skip, pending_none, pending_top, pending_cut}

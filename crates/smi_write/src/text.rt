@@ -1,6 +1,6 @@
 //! The text of a molecule in its written order.
 
-ghost use Rattle.std.specs.Prelude.{◌≡◌, ◌++◌, [], ◌∷◌, ◌+◌, ◌<◌, ◌≤◌, ℕ, IfOk, OnOk, length, drop, flat_map, slice_index_or, not, if◌then◌else◌};
+ghost use Rattle.std.specs.Prelude.{◌≡◌, ◌++◌, [], ◌∷◌, ◌+◌, ◌<◌, ◌≤◌, ℕ, IfOk, OnOk, length, drop, flat_map, get_or, slice_index_or, not, if◌then◌else◌};
 ghost use Rattle.mc_mol.specs.Molecule.{bond_sum};
 ghost use Rattle.mc_mol.specs.WellFormed.{IsMolecule};
 ghost use Rattle.smi_lex.specs.declared.token.TokenKind.TheVariants.{Enter, Leave};
@@ -10,11 +10,11 @@ ghost use Rattle.smi_mean.specs.Written.{at, bond_order, before_atom, atom_token
 ghost use Rattle.smi_write.specs.WrittenOrder.{IsWrittenOrder, LastChildren};
 
 use crate::atom_text::{push_atom, push_symbol};
-use crate::bonds::{bond_sums, order_between};
+use crate::bonds::order_between;
 use crate::order::WrittenAtoms;
 use crate::ring_numbers::push_rings;
 use mc_base::{NoMemory, Text};
-use mc_mol::Mol;
+use mc_mol::{Mol, bond_sums};
 use std::alloc::Global;
 
 /// By the place of a parent, from 1, the place, from 0, of its last child.
@@ -90,7 +90,7 @@ fn push_place(
     requires written { IsWrittenOrder mol.now written.now }
     requires molecule { IsMolecule mol.now }
     requires sum_count { length sums.now ≡ length mol.now.atoms }
-    requires sums { (u : ℕ) → slice_index_or sums.now u 0 ≡ bond_sum mol.now.bonds u }
+    requires sums { (u : ℕ) → get_or sums.now u 0 ≡ bond_sum mol.now.bonds u }
     requires last { LastChildren written.now.parents.items (length mol.now.atoms) last.now }
     requires within { place < length mol.now.atoms }
     ensures { OnOk result (text.new ≡ text.old ++ (flat_map spelling (before_atom (λ j l. bond_order (graph_of mol.now) j l) place
@@ -109,7 +109,7 @@ pub fn text_of(alloc: Global, mol: &Mol, written: &WrittenAtoms) -> Result<Text,
     requires molecule { IsMolecule mol.now }
     ensures { IfOk result (λ text. text ≡ written_text mol.now) }
 {
-    let sums = bond_sums(alloc, mol)?;
+    let sums = bond_sums(alloc, mol.bonds(), mol.atom_count() as usize)?;
     let last = last_children(alloc, &written.parents)?;
     let mut rings = Vec::new(alloc);
     let mut closing = Vec::new(alloc);

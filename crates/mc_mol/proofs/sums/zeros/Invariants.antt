@@ -1,5 +1,5 @@
 use Rattle.std.proofs.Common.{◌≡◌, ℕ, length, get_or}
-use Rattle.smi_mean.proofs.sums.zeros.Given as goal
+use Rattle.mc_mol.proofs.sums.zeros.Given as goal
 
 abbrev pub invariant-loop : goal.invariant-loop
 invariant-loop l = record {

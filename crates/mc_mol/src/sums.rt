@@ -2,7 +2,7 @@ ghost use Rattle.std.specs.Prelude.{◌≡◌, ℕ, ◌+◌, ◌*◌, ◌≤◌,
 ghost use Rattle.mc_mol.specs.Molecule.{bond_sum};
 ghost use Rattle.mc_mol.specs.WellFormed.{IsBond};
 
-use mc_mol::Bond;
+use crate::Bond;
 use std::alloc::{AllocError, Global};
 
 /// As many zeros.
@@ -11,7 +11,7 @@ fn zeros(alloc: Global, count: usize) -> Result<Vec<u32>, AllocError>
     ensures count { IfOk result (λ sums. length sums.items ≡ count) }
     ensures each { IfOk result (λ sums. (k : ℕ) → get_or sums.items k 0 ≡ 0) }
 {
-    let mut sums = Vec::new(alloc);
+    let mut sums = Vec::with_capacity(alloc, count)?;
     for _ in 0..count {
         sums.push(0)?;
     }
@@ -34,7 +34,7 @@ pub fn bond_sums(alloc: Global, bonds: &[Bond], atoms: usize) -> Result<Vec<u32>
     requires few_bonds { length bonds.now ≤ 999 }
     requires bonds { All (IsBond atoms) bonds.now }
     ensures count { IfOk result (λ sums. length sums.items ≡ atoms) }
-    ensures each { IfOk result (λ sums. (k : ℕ) → k < atoms → get_or sums.items k 0 ≡ bond_sum bonds.now k) }
+    ensures each { IfOk result (λ sums. (k : ℕ) → get_or sums.items k 0 ≡ bond_sum bonds.now k) }
     ensures small { IfOk result (λ sums. (k : ℕ) → get_or sums.items k 0 ≤ 65535) }
 {
     let mut sums = zeros(alloc, atoms)?;
