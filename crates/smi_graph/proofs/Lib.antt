@@ -13,3 +13,5 @@ pub mod Places
 pub mod Lifting
 pub mod HeldAtoms
 pub mod Together
+pub mod Ahead
+pub mod Closed

@@ -1,10 +1,11 @@
 -- Later tokens stand at later bytes.
-use Rattle.std.proofs.Common.{arith, ◌≡◌, ◌∙◌, ℕ, zero, suc, ◌+◌, ◌-◌, ◌≤◌, ◌<◌, List, [], ◌∷◌, length, get_or, map, Option, Some, None, refl, ap, sym}
+use Rattle.std.proofs.Common.{arith, ◌≡◌, ◌∙◌, ℕ, zero, suc, ◌+◌, ◌-◌, ◌≤◌, ◌<◌, List, [], ◌∷◌, length, drop, get_or, map, Option, Some, None, refl, ap, sym}
 use Rattle.smi_lex.specs.declared.token.Token.{Token}
 use Rattle.smi_lex.specs.declared.token.TokenKind.{TokenKind}
 use Rattle.smi_lex.specs.Fronts.{token_front}
 use Rattle.smi_lex.specs.Tokens.{further, with_token, tokens_from, tokens}
 use Rattle.smi_graph.specs.Rules.{byte_place}
+use Rattle.smi_graph.proofs.Ahead.{next_of, none_ahead}
 
 abbrev froms : List Token → List ℕ
 froms ts = map (λ token. token.span.from) ts
@@ -57,11 +58,22 @@ begin_is [] i end d less = absurd (omega arith)
 begin_is (x ∷ ts) zero end d less = refl
 begin_is (x ∷ ts) (suc i) end d less = begin_is ts i end d (omega arith)
 
-pub begins_within : (text : List ℕ) (ts : List Token) (i : ℕ) (t : Token) → ts ≡ tokens text → i < length ts → t ≡ get_or ts i t → t.span.from ≤ length text
-begins_within text ts i t is less found =
-    let h = high text 0 0 i (length text) (omega arith) in
-    let e : begin (tokens text) i (length text) ≡ (get_or ts i t).span.from = ap (λ (x : List Token). begin x i (length text)) (sym is) ∙ begin_is ts i (length text) t less in
-    let f : t.span.from ≡ (get_or ts i t).span.from = ap (λ (x : Token). x.span.from) found in omega arith
+-- the byte of the token that is the next of those ahead
+pub place_ahead : (text : List ℕ) (i : ℕ) (t : Token) (later : List Token) → drop i (tokens text) ≡ t ∷ later → byte_place text i ≡ t.span.from + 1
+place_ahead text i t later ahead =
+    let next = next_of (tokens text) i t later ahead in
+    ap (λ (n : ℕ). n + 1) (begin_is (tokens text) i (length text) t next.within ∙ ap (λ (x : Token). x.span.from) (next.here t))
+
+begin_past : (ts : List Token) (i end : ℕ) → length ts ≤ i → begin ts i end ≡ end
+begin_past [] i end past = refl
+begin_past (t ∷ ts) zero end past = absurd (omega arith)
+begin_past (t ∷ ts) (suc i) end past = begin_past ts i end (omega arith)
+
+-- behind all tokens stands the end of the text
+pub place_behind : (text : List ℕ) (passed i : ℕ) → passed ≤ i → drop passed (tokens text) ≡ [] → byte_place text i ≡ length text + 1
+place_behind text passed i le none =
+    let few = none_ahead (tokens text) passed none in
+    ap (λ (n : ℕ). n + 1) (begin_past (tokens text) i (length text) (omega arith))
 
 -- a token has a byte at least
 same_token : (a b : Token) (xs ys : List Token) → a ∷ xs ≡ b ∷ ys → a ≡ b

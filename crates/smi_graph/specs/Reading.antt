@@ -1,21 +1,27 @@
 -- What a reader keeps of the tokens so far.
-use Rattle.std.specs.Prelude.{◌≡◌, ◌<◌, ◌≤◌, ◌+◌, ◌-◌, ℕ, zero, suc, Bool, true, false, List, [], ◌∷◌, Option, Some, None, get_or, length, reverse, drop, min, nat_lt, All, AllPairs, if◌then◌else◌}
+use Rattle.std.specs.List.{list_all}
+use Rattle.std.specs.Prelude.{◌≡◌, ◌<◌, ◌≤◌, ◌+◌, ◌-◌, ℕ, zero, suc, Bool, true, false, List, [], ◌∷◌, Option, Some, None, get_or, length, map, reverse, take, drop, min, nat_lt, All, AllPairs, if◌then◌else◌}
 use Rattle.mc_mol.specs.declared.parts.Bond as bond
 use Rattle.smi_graph.specs.declared.skeleton.SkelAtom.{SkelAtom}
 use Rattle.smi_graph.specs.declared.ring_end.RingEnd.{RingEnd}
 use Rattle.smi_lex.specs.declared.token.BondMark.{BondMark}
+use Rattle.smi_lex.specs.declared.token.Token.{Token}
 use Rattle.smi_graph.specs.declared.role.Role.{Role}
 use Rattle.smi_graph.specs.declared.role.Role.TheVariants.{Atom, Bond, Ring, Enter, Leave, Dot}
 use Rattle.smi_graph.specs.declared.order.Place.{Place}
+use Rattle.smi_graph.specs.declared.order.InOrder.{InOrder}
+use Rattle.smi_graph.specs.declared.order.InOrder.TheVariants.{UpTo, Broken}
 use Rattle.smi_graph.specs.declared.builder.Builder.{Builder}
-use Rattle.smi_graph.specs.declared.reading.Reading.{Reading}
+use Rattle.smi_graph.specs.declared.structure.Structure.{Structure}
+use Rattle.smi_graph.specs.declared.reader.Reader.{Reader}
 use Rattle.smi_graph.specs.RingRules.{clash_at, pair_again_at}
-use Rattle.smi_graph.specs.Order.{latest, is_stray_bond, depth}
+use Rattle.smi_graph.specs.Order.{latest, is_stray_bond, depth, tokens_before, misplaced_at}
 use Rattle.smi_graph.specs.Bonds.{atom_count, open_end, bonds_of}
+use Rattle.smi_graph.specs.Roles.{roles, atoms_of}
+use Rattle.smi_graph.specs.Rules.{is_built_kind}
 
 -- the place is the one behind these tokens, the latest first
 pub record IsBehind (place : Place) (before : List Role) : Type 0 where
-  pub latest : place.latest ≡ latest before
   pub stray : place.stray ≡ is_stray_bond before
   pub depth : depth before ≡ Some place.depth
 
@@ -128,9 +134,31 @@ pub record Reads (b : Builder) (before : List Role) : Type 0 where
   pub returns : b.returns.items ≡ reverse (return_atoms before)
   pub ends : (n : ℕ) → get_or b.ends.items n None ≡ open_end n before
 
--- what a reading says of these tokens
-pub record IsReadingOf (ks : List Role) (reading : Reading) : Type 0 where
-  pub bonds : reading.bonds.items ≡ bonds_of (reverse ks)
-  pub unclosed : IsFirstOpen (reverse ks) reading.unclosed
-  pub clash : IsFirstOf (clash_at ks) (length ks) reading.clash
-  pub pair : IsFirstOf (pair_again_at ks) (length ks) reading.pair
+-- so many tokens, from the first on, stand in order; or one of them is the first that doesn't
+abbrev pub IsInOrder : List Role → ℕ → InOrder → Type 0
+IsInOrder ks i (UpTo place) = IsBehind place (tokens_before ks i) × NoneBelow (misplaced_at ks) i
+IsInOrder ks i (Broken first) = IsFirstOf (misplaced_at ks) i (Some first)
+
+-- so many tokens open no more branches than they are
+abbrev pub IsShallow : ℕ → InOrder → Type 0
+IsShallow i (UpTo place) = place.depth ≤ i
+IsShallow i (Broken first) = Unit {0}
+
+-- the structure is that of the first tokens of these
+pub record Follows (ks : List Role) (s : Structure) : Type 0 where
+  pub reads : Reads s.builder (tokens_before ks s.builder.tokens)
+  pub order : IsInOrder ks s.builder.tokens s.order
+  pub clash : IsFirstOf (clash_at ks) s.builder.tokens s.clash
+  pub pair : IsFirstOf (pair_again_at ks) s.builder.tokens s.pair
+
+-- no more atoms and no more open branches than tokens
+pub record IsBounded (s : Structure) : Type 0 where
+  pub count : s.builder.count ≤ s.builder.tokens
+  pub depth : IsShallow s.builder.tokens s.order
+
+-- the reader has the atoms of the first tokens of these, and their structure
+pub record HasRead (ts : List Token) (r : Reader) : Type 0 where
+  pub within : r.structure.builder.tokens ≤ length ts
+  pub atoms : r.atoms.items ≡ map held_atom (atoms_of (take r.structure.builder.tokens ts))
+  pub built : r.all_built ≡ list_all (λ token. is_built_kind token.kind) (take r.structure.builder.tokens ts)
+  pub follows : Follows (roles ts) r.structure

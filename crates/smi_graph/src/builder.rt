@@ -138,6 +138,7 @@ impl Builder {
     }
 
     /// A ring number that stands here.
+    #[inline(always)]
     fn here(&self) -> RingEnd
         ensures { (before : List Role) → Reads self.now before → result ≡ ring_end before }
     {
@@ -150,6 +151,7 @@ impl Builder {
 
     /// Whether a token that stands here is a closing number whose symbol says another order than that of
     /// the opening number.
+    #[inline(always)]
     pub fn clashes(&self, role: Role) -> bool
         ensures { (before : List Role) → Reads self.now before → result ≡ is_clash before (Some role) }
     {
@@ -160,6 +162,7 @@ impl Builder {
     }
 
     /// Whether a token that stands here is a closing number between atoms that are one, or are joined already.
+    #[inline(always)]
     pub fn pairs_again(&self, role: Role) -> bool
         ensures { (before : List Role) → Reads self.now before → result ≡ is_pair_again before (Some role) }
     {
@@ -172,6 +175,7 @@ impl Builder {
     }
 
     /// One more atom.
+    #[inline(always)]
     fn read_atom(&mut self) -> Result<(), AllocError>
         requires tokens { self.old.tokens < 2 ^ 32 - 1 }
         requires count { self.old.count < 2 ^ 32 - 1 }
@@ -205,6 +209,7 @@ impl Builder {
     }
 
     /// A token that joins no atoms.
+    #[inline(always)]
     fn pass(&mut self, role: Role)
         requires { self.old.tokens < 2 ^ 32 - 1 }
         ensures { self.new ≡ record self.old { tokens = self.old.tokens + 1; latest = Some role } }
@@ -214,6 +219,7 @@ impl Builder {
     }
 
     /// One more token.
+    #[inline(always)]
     pub fn read(&mut self, role: Role) -> Result<(), AllocError>
         requires tokens { self.old.tokens < 2 ^ 32 - 1 }
         requires count { self.old.count < 2 ^ 32 - 1 }
@@ -239,6 +245,28 @@ impl Builder {
                 Ok(())
             }
         }
+    }
+
+    /// How many tokens there are.
+    #[inline(always)]
+    pub fn token_count(&self) -> u32
+        ensures { result ≡ self.now.tokens }
+    {
+        self.tokens
+    }
+
+    /// The latest token.
+    #[inline(always)]
+    pub fn latest(&self) -> Option<Role>
+        ensures { result ≡ self.now.latest }
+    {
+        self.latest
+    }
+
+    pub fn bonds(&self) -> &[Bond]
+        ensures { result.now ≡ self.now.bonds.items }
+    {
+        self.bonds.as_slice()
     }
 
     /// Where each ring number is open, from number 0 on.

@@ -6,7 +6,7 @@ mod fault;
 mod limits;
 mod order;
 mod read;
-mod reading;
+mod reader;
 mod ring_end;
 mod role;
 mod skeleton;

@@ -1,5 +1,6 @@
-ghost use Rattle.std.specs.Prelude.{◌≡◌, ℕ, Bool, ◌+◌, ◌^◌, ◌≤◌, ◌<◌, ◌&&◌, nat_le, IfSome, length, Some};
-ghost use Rattle.smi_graph.specs.Order.{after_start, after_bond, after_enter, after_leave, after_dot, may_follow, depth_behind, is_ring, is_bond, holds_ring, is_enter, misplaced_at, unclosed_at};
+ghost use Rattle.std.specs.Prelude.{◌≡◌, ℕ, Bool, List, ◌+◌, ◌^◌, ◌≤◌, ◌<◌, ◌&&◌, nat_le, not, IfSome, length, Some, None};
+ghost use Rattle.smi_graph.specs.declared.role.Role.{Role};
+ghost use Rattle.smi_graph.specs.Order.{after_start, after_bond, after_enter, after_leave, after_dot, may_follow, depth_behind, is_ring, is_bond, holds_ring, is_enter, is_misplaced, latest, unclosed_at};
 ghost use Rattle.smi_graph.specs.Reading.{IsFirstOf, IsFirstFrom, unmatched_with};
 
 use crate::Role;
@@ -105,10 +106,9 @@ fn holds_ring(latest: Option<Role>) -> bool
     }
 }
 
-/// A place in a text: what decides which token may stand there.
+/// A place in a text: what decides, beside the token before it, which token may stand there.
 #[derive(Clone, Copy)]
 pub struct Place {
-    latest: Option<Role>,
     /// a bond symbol stands directly before, and no ring number may follow it
     stray: bool,
     depth: usize,
@@ -117,65 +117,106 @@ pub struct Place {
 impl Place {
     ghost use Rattle.std.specs.Prelude.{◌≡◌, ◌∷◌, [], ◌^◌, ◌<◌, ◌≤◌, ◌+◌, ◌-◌, IfSome, IfNone, List, Some, None, not, true, false};
     ghost use Rattle.smi_graph.specs.declared.role.Role.{Role};
-    ghost use Rattle.smi_graph.specs.Order.{is_misplaced};
+    ghost use Rattle.smi_graph.specs.Order.{is_misplaced, latest};
     ghost use Rattle.smi_graph.specs.Reading.{IsBehind};
 
     /// The beginning of a text.
-    pub fn start() -> Place
-        ensures { IsBehind result [] }
+    fn start() -> Place
+        ensures behind { IsBehind result [] }
+        ensures depth { result.depth ≡ 0 }
     {
         Place {
-            latest: None,
             stray: false,
             depth: 0,
         }
     }
 
-    /// The place behind one more token, where it may stand here.
-    pub fn behind(self, role: Role) -> Option<Place>
+    /// The place behind one more token, where it may stand here, behind the previous one.
+    #[inline(always)]
+    fn behind(self, previous: Option<Role>, role: Role) -> Option<Place>
         requires { self.depth < 2 ^ 32 }
         ensures bound { IfSome result (λ next. next.depth ≤ self.depth + 1) }
-        ensures placed { IfSome result (λ next. (before : List Role) → IsBehind self before → is_misplaced before (Some role) ≡ false) }
-        ensures behind { IfSome result (λ next. (before : List Role) → IsBehind self before → IsBehind next (role ∷ before)) }
-        ensures misplaced { IfNone result ((before : List Role) → IsBehind self before → is_misplaced before (Some role) ≡ true) }
+        ensures placed { IfSome result (λ next. (before : List Role) → previous ≡ latest before → IsBehind self before → is_misplaced before (Some role) ≡ false) }
+        ensures behind { IfSome result (λ next. (before : List Role) → previous ≡ latest before → IsBehind self before → IsBehind next (role ∷ before)) }
+        ensures misplaced { IfNone result ((before : List Role) → previous ≡ latest before → IsBehind self before → is_misplaced before (Some role) ≡ true) }
     {
-        if !may_follow(self.latest, Some(role)) || self.stray && is_ring(role) {
+        if !may_follow(previous, Some(role)) || self.stray && is_ring(role) {
             return None;
         }
         match depth_behind(self.depth, role) {
             Some(depth) => Some(Place {
-                latest: Some(role),
-                stray: is_bond(role) && !holds_ring(self.latest),
+                stray: is_bond(role) && !holds_ring(previous),
                 depth,
             }),
             None => None,
         }
     }
-
-    /// Whether a text may end here.
-    pub fn may_end(self) -> bool
-        ensures { (before : List Role) → IsBehind self before → is_misplaced before None ≡ not result }
-    {
-        may_follow(self.latest, None)
-    }
 }
 
-/// The first place at which a token, or the end, may not stand.
-pub fn first_misplaced(roles: &[Role]) -> Option<usize>
-    requires { length roles.now < 2 ^ 32 }
-    ensures { IsFirstOf (misplaced_at roles.now) (length roles.now + 1) result }
+/// Whether a text may end behind this token.
+fn may_end(previous: Option<Role>) -> bool
+    ensures { (before : List Role) → previous ≡ latest before → is_misplaced before None ≡ not result }
 {
-    let mut place = Place::start();
-    for (i, role) in roles.iter().enumerate() {
-        match place.behind(*role) {
-            Some(next) => place = next,
-            None => return Some(i),
+    may_follow(previous, None)
+}
+
+/// How the tokens so far stand.
+#[derive(Clone, Copy)]
+pub enum InOrder {
+    /// each of them may stand where it does; this is the place behind them
+    UpTo(Place),
+    /// the token of this number, from 0, is the first that may not
+    Broken(u32),
+}
+
+impl InOrder {
+    ghost use Rattle.std.specs.Prelude.{◌≡◌, ◌+◌, ◌^◌, ◌<◌, ℕ, List, length, get_or, true, false};
+    ghost use Rattle.smi_graph.specs.declared.role.Role.{Role};
+    ghost use Rattle.smi_graph.specs.Order.{latest, misplaced_at, tokens_before, unclosed_at};
+    ghost use Rattle.smi_graph.specs.Reading.{IsFirstOf, IsInOrder, IsShallow};
+
+    /// No tokens.
+    pub fn start() -> InOrder
+        ensures order { (ks : List Role) → IsInOrder ks 0 result }
+        ensures shallow { IsShallow 0 result }
+    {
+        InOrder::UpTo(Place::start())
+    }
+
+    /// One more token, of number i, behind the previous one.
+    #[inline(always)]
+    pub fn behind(self, previous: Option<Role>, role: Role, i: u32) -> InOrder
+        requires { IsShallow i self }
+        ensures order { (ks : List Role) (d : Role) → i < length ks → get_or ks i d ≡ role → previous ≡ latest (tokens_before ks i) → IsInOrder ks i self → IsInOrder ks (i + 1) result }
+        ensures shallow { IsShallow (i + 1) result }
+    {
+        match self {
+            InOrder::UpTo(place) => match place.behind(previous, role) {
+                Some(next) => InOrder::UpTo(next),
+                None => InOrder::Broken(i),
+            },
+            InOrder::Broken(first) => InOrder::Broken(first),
         }
     }
-    if place.may_end() {
-        None
-    } else {
-        Some(roles.len())
+
+    /// The first place at which a token, or the end behind so many tokens, may not stand.
+    pub fn first_misplaced(self, previous: Option<Role>, count: u32) -> Option<u32>
+        ensures { (ks : List Role) → count ≡ length ks → previous ≡ latest (tokens_before ks count) → IsInOrder ks count self → IsFirstOf (misplaced_at ks) (length ks + 1) result }
+    {
+        match self {
+            InOrder::UpTo(_) => { if may_end(previous) { None } else { Some(count) } }
+            InOrder::Broken(first) => Some(first),
+        }
+    }
+
+    /// Whether no branch is open behind the tokens, and each of them may stand where it does.
+    pub fn is_closed(self) -> bool
+        ensures { (ks : List Role) → result ≡ true → IsInOrder ks (length ks) self → (i : ℕ) → unclosed_at ks i ≡ false }
+    {
+        match self {
+            InOrder::UpTo(place) => place.depth == 0,
+            InOrder::Broken(_) => false,
+        }
     }
 }
 

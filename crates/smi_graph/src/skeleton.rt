@@ -1,12 +1,12 @@
-ghost use Rattle.std.specs.Prelude.{◌≡◌, ◌++◌, IfOk, OnOk, map, min};
-ghost use Rattle.smi_graph.specs.Roles.{atom_of, atoms_of};
+ghost use Rattle.std.specs.Prelude.{◌≡◌, ◌++◌, OnOk, map, min};
+ghost use Rattle.smi_graph.specs.Roles.{atom_of};
 ghost use Rattle.smi_graph.specs.Reading.{held_atom};
 
 use mc_base::{AtomId, BondId, Span};
 use mc_elements::Element;
 use mc_mol::Bond;
-use smi_lex::{Token, TokenKind};
-use std::alloc::{AllocError, Global};
+use smi_lex::TokenKind;
+use std::alloc::AllocError;
 
 /// An atom of a text. `bare` says that it stands without brackets, and then its hydrogens aren't written:
 /// they stand here as 0. An isotope or a class of 0 is none. `chiral` is true for `@` and false for `@@`.
@@ -46,7 +46,9 @@ fn held(number: u32) -> u16
     if number > 65535 { 65535 } else { number as u16 }
 }
 
-fn push_atom(atoms: &mut Vec<SkelAtom>, kind: TokenKind, span: Span) -> Result<(), AllocError>
+/// Adds the atom that a token is.
+#[inline(always)]
+pub fn push_atom(atoms: &mut Vec<SkelAtom>, kind: TokenKind, span: Span) -> Result<(), AllocError>
     ensures { OnOk result (atoms.new.items ≡ atoms.old.items ++ map held_atom (atom_of kind span)) }
 {
     match kind {
@@ -92,17 +94,6 @@ fn push_atom(atoms: &mut Vec<SkelAtom>, kind: TokenKind, span: Span) -> Result<(
         | TokenKind::Leave
         | TokenKind::Dot => Ok(()),
     }
-}
-
-/// The atoms, in the order of the text.
-pub fn atoms_of(alloc: Global, tokens: &[Token]) -> Result<Vec<SkelAtom>, AllocError>
-    ensures { IfOk result (λ atoms. atoms.items ≡ map held_atom (atoms_of tokens.now)) }
-{
-    let mut atoms = Vec::with_capacity(alloc, tokens.len())?;
-    for token in tokens {
-        push_atom(&mut atoms, token.kind, token.span)?;
-    }
-    Ok(atoms)
 }
 
 /// The atoms and bonds of a text. Atoms have the order of the text, bonds that of the tokens that complete them.

@@ -1,33 +1,12 @@
-ghost use Rattle.std.specs.Prelude.{◌≡◌, ◌≤◌, ◌<◌, ◌^◌, ◌-◌, [], IfOk, IfErr, length};
-ghost use Rattle.std.specs.List.{list_all};
-ghost use Rattle.smi_lex.specs.Tokens.{tokens, unread};
-ghost use Rattle.smi_graph.specs.Rules.{is_built_kind, is_built_mark};
-ghost use Rattle.smi_graph.specs.Skeletons.{IsBroken};
+//! The tokens of a text: which are read today, and what is read again of a text that has a fault.
 
-use mc_base::{Refusal, Stop};
-use smi_lex::{BondMark, LexStep, Lexer, Token, TokenKind};
-use std::alloc::Global;
+ghost use Rattle.std.specs.Prelude.{◌≡◌, ◌≤◌, ◌<◌, ◌^◌, ◌-◌, IfOk, length};
+ghost use Rattle.smi_graph.specs.Rules.{is_built_kind, is_built_mark, roles_in, byte_place};
 
-/// The tokens of a text, or the first byte at which none begins.
-pub fn tokens_of(alloc: Global, text: &[u8]) -> Result<Vec<Token>, Stop>
-    requires { length text.now < 2 ^ 32 - 1 }
-    ensures tokens { IfOk result (λ found. found.items ≡ tokens text.now) }
-    ensures whole { IfOk result (λ found. unread text.now ≡ []) }
-    ensures few { IfOk result (λ found. length found.items ≤ length text.now) }
-    ensures err { IfErr result (IsBroken text.now) }
-{
-    let mut lexer = Lexer::new(text);
-    let mut found = Vec::with_capacity(alloc, text.len())?;
-    loop {
-        match lexer.next() {
-            LexStep::Token(token) => found.push(token)?,
-            LexStep::End => return Ok(found),
-            LexStep::Refused(kind, place) => {
-                return Err(Stop::Refused(Refusal::at(alloc, kind, place)));
-            }
-        }
-    }
-}
+use crate::Role;
+use crate::role::role_of;
+use smi_lex::{BondMark, LexStep, Lexer, TokenKind};
+use std::alloc::{AllocError, Global};
 
 fn is_built_mark(mark: BondMark) -> bool
     ensures { result ≡ is_built_mark mark }
@@ -38,7 +17,9 @@ fn is_built_mark(mark: BondMark) -> bool
     }
 }
 
-fn is_built_kind(kind: TokenKind) -> bool
+/// Whether a token is read today.
+#[inline(always)]
+pub fn is_built_kind(kind: TokenKind) -> bool
     ensures { result ≡ is_built_kind kind }
 {
     match kind {
@@ -49,9 +30,40 @@ fn is_built_kind(kind: TokenKind) -> bool
     }
 }
 
-/// Whether all of these tokens are read today.
-pub fn are_built(tokens: &[Token]) -> bool
-    ensures { result ≡ list_all (λ token. is_built_kind token.kind) tokens.now }
+/// What the tokens of a text do, in their order.
+pub fn roles_of(alloc: Global, text: &[u8]) -> Result<Vec<Role>, AllocError>
+    requires { length text.now < 2 ^ 32 - 1 }
+    ensures roles { IfOk result (λ found. found.items ≡ roles_in text.now) }
+    ensures few { IfOk result (λ found. length found.items ≤ length text.now) }
 {
-    tokens.iter().all(|token| is_built_kind(token.kind))
+    let mut lexer = Lexer::new(text);
+    let mut found = Vec::new(alloc);
+    loop {
+        match lexer.next() {
+            LexStep::Token(token) => found.push(role_of(token.kind))?,
+            LexStep::End => return Ok(found),
+            LexStep::Refused(_, _) => return Ok(found),
+        }
+    }
+}
+
+/// The byte at which token i stands, from 1; the end is the byte behind the text.
+pub fn byte_place(text: &[u8], i: u32) -> u32
+    requires { length text.now < 2 ^ 32 - 1 }
+    ensures { result ≡ byte_place text.now i }
+{
+    let mut lexer = Lexer::new(text);
+    let mut passed = 0u32;
+    loop {
+        match lexer.next() {
+            LexStep::Token(token) => {
+                if passed == i {
+                    return token.span.from + 1;
+                }
+                passed += 1;
+            }
+            LexStep::End => return text.len() as u32 + 1,
+            LexStep::Refused(_, _) => return text.len() as u32 + 1,
+        }
+    }
 }

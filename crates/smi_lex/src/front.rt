@@ -27,6 +27,7 @@ fn lower(element: Element) -> TokenKind
 }
 
 /// A token of one byte, which begins no other token.
+#[inline(always)]
 fn byte_kind(byte: u8) -> Option<TokenKind>
     ensures { result ≡ byte_kind byte }
 {
@@ -73,6 +74,7 @@ fn two_digits(text: &[u8]) -> Option<(TokenKind, &[u8])>
 }
 
 /// An atom of two letters where the second one follows, and else of one.
+#[inline(always)]
 fn one_or_two_letters(text: &[u8], second: u8, two: Element, one: Element) -> (TokenKind, &[u8])
     ensures value { result.0 ≡ (one_or_two_letters second two one text.now).0 }
     ensures rest { result.1.now ≡ (one_or_two_letters second two one text.now).1 }
@@ -84,6 +86,7 @@ fn one_or_two_letters(text: &[u8], second: u8, two: Element, one: Element) -> (T
 }
 
 /// The token at the front of a text, and what is behind it.
+#[inline(always)]
 pub fn token_front(text: &[u8]) -> Option<(TokenKind, &[u8])>
     ensures { front_view result ≡ token_front text.now }
 {

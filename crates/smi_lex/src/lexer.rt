@@ -39,6 +39,7 @@ impl<'a> Lexer<'a> {
 
     /// The token that begins where the lexer stands, which then stands behind it. After `End` and
     /// after a refusal the lexer stands still, and answers the same again.
+    #[inline(always)]
     pub fn next(&mut self) -> LexStep
         ensures token { IfToken result (λ token.
             StandsAt self.old.text self.old.at token × (self.new ≡ record self.old { at = token.span.to })) }
@@ -67,6 +68,7 @@ pub fn tokens_law()
     ensures one_kind { (kind other : TokenKind) (text : List ℕ) → Spells kind text → Spells other text → kind ≡ other }
 {}
 
+#[inline(always)]
 fn text_from(text: &[u8], place: u32) -> &[u8]
     requires { place ≤ length text.now }
     ensures { result.now ≡ drop place text.now }
@@ -75,6 +77,7 @@ fn text_from(text: &[u8], place: u32) -> &[u8]
 }
 
 /// What a lexer answers at this place.
+#[inline(always)]
 fn step_at(text: &[u8], place: u32) -> LexStep
     requires short { length text.now < 2 ^ 32 - 1 }
     requires inside { place ≤ length text.now }

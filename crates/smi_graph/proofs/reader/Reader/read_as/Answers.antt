@@ -1,0 +1,30 @@
+use Rattle.std.proofs.Common.{arith, ◌≡◌, ◌∙◌, ◌∷◌, ◌++◌, [], ◌+◌, ℕ, List, take, map, subst, sym, ap, refl}
+use Rattle.std.specs.List.{list_all}
+use Rattle.std.specs.Prelude.{◌&&◌, Bool}
+use Rattle.std.proofs.lemmas.List.{length-map}
+use Rattle.smi_lex.specs.declared.token.Token.{Token}
+use Rattle.smi_graph.specs.declared.role.Role.{Role}
+use Rattle.smi_graph.specs.declared.skeleton.SkelAtom.{SkelAtom}
+use Rattle.smi_graph.specs.Roles.{role_of, roles, atom_of, atoms_of}
+use Rattle.smi_graph.specs.Reading.{held_atom}
+use Rattle.smi_graph.specs.Rules.{is_built_kind}
+use Rattle.smi_graph.proofs.Ahead.{next_of, take_next, map_here, all_more, held_more}
+use Rattle.smi_graph.proofs.reader.Reader.read_as.Goals as goal
+
+pub returns-clause-has : goal.returns-clause-has
+returns-clause-has c = λ ts later ahead has.
+    let i : ℕ = c.args.self.now.structure.builder.tokens in
+    let next = next_of ts i c.args.token later ahead in
+    let within = next.within in
+    let more = c.in_ok-read.ensures.tokens in
+    let taken : take c.read.new.self.builder.tokens ts ≡ take i ts ++ c.args.token ∷ [] = ap (λ (n : ℕ). take n ts) more ∙ take_next ts i c.args.token later ahead in
+    let count = length-map ts (λ (token : Token). role_of token.kind) in
+    record {
+      within = omega arith;
+      atoms = c.in_ok-push_atom.ensures ∙ (ap (λ (x : List SkelAtom). x ++ map held_atom (atom_of c.args.token.kind c.args.token.span)) has.atoms
+          ∙ (sym (held_more (take i ts) c.args.token) ∙ ap (λ (x : List Token). map held_atom (atoms_of x)) (sym taken)));
+      built = c.both-self.ensures ∙ (rw (has.built, c.is_built_kind.ensures) refl
+          ∙ (sym (all_more (λ (token : Token). is_built_kind token.kind) (take i ts) c.args.token) ∙ ap (list_all (λ (token : Token). is_built_kind token.kind)) (sym taken)));
+      follows = c.in_ok-read.ensures.follows (roles ts) c.args.role (omega arith)
+          (map_here (λ (token : Token). role_of token.kind) ts i c.args.role c.args.token within ∙ (ap (λ (t : Token). role_of t.kind) (next.here c.args.token) ∙ sym c.requires.role)) has.follows;
+    }
