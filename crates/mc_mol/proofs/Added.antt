@@ -252,4 +252,3 @@ few_held n bonds lists holds a d h =
 pub few_half_edges : (m : Molecule) (lists : List (SmallVec HalfEdge)) → IsMolecule m × HoldsHalfEdges m lists → (a : ℕ) (d : SmallVec HalfEdge) → a < length m.atoms
     → length (get_or lists a d).items ≤ 999
 few_half_edges m lists holds a d h = omega (arith, few_held (length m.atoms) m.bonds lists holds.1.each a d h, holds.0.few_bonds)
-

@@ -266,9 +266,7 @@ impl Mol {
 fn nones<T: Copy>(alloc: Global, count: usize) -> Result<Vec<Option<T>>, AllocError>
     ensures { IfOk result (λ list. list.items ≡ replicate count None) }
 {
-    let mut list = Vec::new(alloc);
-    list.resize(count, None)?;
-    Ok(list)
+    vec![in alloc; None; count]
 }
 
 /// Whether one of the half-edges leads to this atom.

@@ -1,4 +1,4 @@
-use Rattle.std.proofs.Common.{◌≡◌, ◌∙◌, ℕ, length, get_or, take, refl, arith}
+use Rattle.std.proofs.Common.{◌≡◌, ◌∙◌, length, get_or, take, refl, arith}
 use Rattle.std.proofs.lemmas.List.{length-take}
 use Rattle.mc_mol.specs.declared.parts.Bond.{Bond}
 use Rattle.mc_mol.proofs.Added.{few_held, gains_of, hold_next}
