@@ -1,10 +1,10 @@
 -- A molecule with one more atom, and with one more bond.
-use Rattle.std.proofs.Common.{◌≡◌, ◌≢◌, ℕ, zero, suc, ◌+◌, ◌<◌, ◌≤◌, ◌↔◌, Bool, true, false, ◌||◌, ◌==◌, List, [], ◌∷◌, ◌++◌, Option, Some, None, Contains, length, reverse, get_or, slice_get, subst, sym, ap, ◌∙◌, arith, refl, inl, inr}
+use Rattle.std.proofs.Common.{◌≡◌, ◌≢◌, ℕ, zero, suc, ◌+◌, ◌<◌, ◌≤◌, ◌↔◌, Bool, true, false, ◌||◌, ◌==◌, List, [], ◌∷◌, ◌++◌, Option, Some, None, Contains, length, reverse, take, get_or, slice_get, subst, sym, ap, ◌∙◌, arith, refl, inl, inr}
 use Rattle.std.specs.List.{All, list_any}
 use Rattle.std.proofs.lemmas.Bool.{cases_eq}
 use Rattle.std.proofs.lemmas.Option.{slice_get_within}
 use Rattle.std.proofs.lemmas.List.Folds.{list_any-append}
-use Rattle.std.proofs.lemmas.List.{length-append, length-reverse, append-nil, get_or_append_left}
+use Rattle.std.proofs.lemmas.List.{length-append, length-reverse, take_more, append-nil, get_or_append_left}
 use Rattle.std.proofs.Math.Seq.{get_or-append_seam}
 use Rattle.std.proofs.lemmas.List.Elements.{All-append}
 use Rattle.std.proofs.lemmas.List.Quantifiers.{all_pairs_push}
@@ -147,10 +147,13 @@ with_bond-IsMolecule m bond is fits free first_free second_free room =
           with_bond-IsSides m.bonds bond b s (is.sides k b s (sym (slice_get-append_left m.bonds (bond ∷ []) k within) ∙ b_at) s_before);
     }
 
+-- the lists are the half-edges of these bonds, for so many atoms
+abbrev pub HoldAt : ℕ → List Bond → List (SmallVec HalfEdge) → Type 0
+HoldAt atoms bonds lists = (a : ℕ) (d : SmallVec HalfEdge) → a < atoms → (get_or lists a d).items ≡ half_edges_by (reverse bonds) a
+
 -- what the lists of half-edges are with one more bond
-pub record Gains (m : Molecule) (old new : List (SmallVec HalfEdge)) (bond : Bond) (id : BondId) : Type 0 where
-  pub count : length new ≡ length old
-  pub number : id.0 ≡ length m.bonds
+pub record Gains (bonds : List Bond) (old new : List (SmallVec HalfEdge)) (bond : Bond) (id : BondId) : Type 0 where
+  pub number : id.0 ≡ length bonds
   pub at_first : (d e : SmallVec HalfEdge) → (get_or new bond.first.0 d).items
       ≡ (get_or old bond.first.0 d).items ++ record { bond = id; to = bond.second; twin = length (get_or old bond.second.0 e).items } ∷ []
   pub at_second : (d e : SmallVec HalfEdge) → (get_or new bond.second.0 d).items
@@ -158,62 +161,70 @@ pub record Gains (m : Molecule) (old new : List (SmallVec HalfEdge)) (bond : Bon
   pub others : (k : ℕ) (d : SmallVec HalfEdge) → k ≢ bond.first.0 → k ≢ bond.second.0 → (get_or new k d).items ≡ (get_or old k d).items
 
 -- the same where room was taken before, which changes no item
-pub gains_of : (m : Molecule) (old room new : List (SmallVec HalfEdge)) (bond : Bond) (id : BondId) → id.0 ≡ length m.bonds
-    → length room ≡ length old → ((k : ℕ) (d : SmallVec HalfEdge) → (get_or room k d).items ≡ (get_or old k d).items)
-    → length new ≡ length room
+pub gains_of : (bonds : List Bond) (old room new : List (SmallVec HalfEdge)) (bond : Bond) (id : BondId) → id.0 ≡ length bonds
+    → ((k : ℕ) (d : SmallVec HalfEdge) → (get_or room k d).items ≡ (get_or old k d).items)
     → ((d e : SmallVec HalfEdge) → (get_or new bond.first.0 d).items
     ≡ (get_or room bond.first.0 d).items ++ record { bond = id; to = bond.second; twin = length (get_or room bond.second.0 e).items } ∷ [])
     → ((d e : SmallVec HalfEdge) → (get_or new bond.second.0 d).items
     ≡ (get_or room bond.second.0 d).items ++ record { bond = id; to = bond.first; twin = length (get_or room bond.first.0 e).items } ∷ [])
     → ((k : ℕ) (d : SmallVec HalfEdge) → k ≢ bond.first.0 → k ≢ bond.second.0 → get_or new k d ≡ get_or room k d)
-    → Gains m old new bond id
-gains_of m old room new bond id number as_long same count at_first at_second others = record {
-  count = count ∙ as_long;
+    → Gains bonds old new bond id
+gains_of bonds old room new bond id number same at_first at_second others = record {
   number = number;
   at_first = λ d e. rw (← same bond.first.0 d, ← same bond.second.0 e) (at_first d e);
   at_second = λ d e. rw (← same bond.second.0 d, ← same bond.first.0 e) (at_second d e);
   others = λ k d first second. ap (λ (l : SmallVec HalfEdge). l.items) (others k d first second) ∙ same k d;
 }
 
-abbrev wanted : Molecule → Bond → ℕ → List HalfEdge
-wanted m bond a = half_edges_by (reverse m.bonds) a ++ half_edge bond (reverse m.bonds) a
+abbrev wanted : List Bond → Bond → ℕ → List HalfEdge
+wanted bonds bond a = half_edges_by (reverse bonds) a ++ half_edge bond (reverse bonds) a
 
-with_bond-HoldsHalfEdges : (m : Molecule) (old new : List (SmallVec HalfEdge)) (bond : Bond) (id : BondId) → HoldsHalfEdges m old → IsBond (length m.atoms) bond
-    → Gains m old new bond id → HoldsHalfEdges (with_bond m bond) new
-with_bond-HoldsHalfEdges m old new bond id holds fits gains = record {
-  count = gains.count ∙ holds.count;
-  each = λ a d h. each_with_bond a d h;
-}
+hold_one_more : (n : ℕ) (bonds : List Bond) (old new : List (SmallVec HalfEdge)) (bond : Bond) (id : BondId) → HoldAt n bonds old → IsBond n bond
+    → Gains bonds old new bond id → HoldAt n (bonds ++ bond ∷ []) new
+hold_one_more n bonds old new bond id holds fits gains = each_with_bond
   where
     none : SmallVec HalfEdge
     none = record { items = []; capacity = 0 }
 
-    twin_of : (a : ℕ) → a < length m.atoms → length (get_or old a none).items ≡ degree (reverse m.bonds) a
-    twin_of a h = ap (λ (xs : List HalfEdge). length xs) (holds.each a none h) ∙ length-half_edges_by (reverse m.bonds) a
+    twin_of : (a : ℕ) → a < n → length (get_or old a none).items ≡ degree (reverse bonds) a
+    twin_of a h = ap (λ (xs : List HalfEdge). length xs) (holds a none h) ∙ length-half_edges_by (reverse bonds) a
 
-    number : id ≡ record { 0 = length (reverse m.bonds) }
-    number = ap (λ (n : ℕ). let made : BondId = record { 0 = n } in made) (gains.number ∙ sym (length-reverse m.bonds))
+    number : id ≡ record { 0 = length (reverse bonds) }
+    number = ap (λ (n : ℕ). let made : BondId = record { 0 = n } in made) (gains.number ∙ sym (length-reverse bonds))
 
-    here_first : (d : SmallVec HalfEdge) → (get_or new bond.first.0 d).items ≡ wanted m bond bond.first.0
-    here_first d = rw (gains.at_first d none, twin_of bond.second.0 fits.second, number, holds.each bond.first.0 d fits.first, half_edge-first bond (reverse m.bonds)) refl
+    here_first : (d : SmallVec HalfEdge) → (get_or new bond.first.0 d).items ≡ wanted bonds bond bond.first.0
+    here_first d = rw (gains.at_first d none, twin_of bond.second.0 fits.second, number, holds bond.first.0 d fits.first, half_edge-first bond (reverse bonds)) refl
 
-    here_second : (d : SmallVec HalfEdge) → (get_or new bond.second.0 d).items ≡ wanted m bond bond.second.0
-    here_second d = rw (gains.at_second d none, twin_of bond.first.0 fits.first, number, holds.each bond.second.0 d fits.second, half_edge-second bond (reverse m.bonds) fits.different) refl
+    here_second : (d : SmallVec HalfEdge) → (get_or new bond.second.0 d).items ≡ wanted bonds bond bond.second.0
+    here_second d = rw (gains.at_second d none, twin_of bond.first.0 fits.first, number, holds bond.second.0 d fits.second, half_edge-second bond (reverse bonds) fits.different) refl
 
-    elsewhere : (a : ℕ) (d : SmallVec HalfEdge) → a < length m.atoms → a ≢ bond.first.0 → a ≢ bond.second.0 → (get_or new a d).items ≡ wanted m bond a
-    elsewhere a d h first second = rw (gains.others a d first second, holds.each a d h, half_edge-other bond (reverse m.bonds) a (λ e. first (sym e)) (λ e. second (sym e)), append-nil (half_edges_by (reverse m.bonds) a)) refl
+    elsewhere : (a : ℕ) (d : SmallVec HalfEdge) → a < n → a ≢ bond.first.0 → a ≢ bond.second.0 → (get_or new a d).items ≡ wanted bonds bond a
+    elsewhere a d h first second = rw (gains.others a d first second, holds a d h, half_edge-other bond (reverse bonds) a (λ e. first (sym e)) (λ e. second (sym e)), append-nil (half_edges_by (reverse bonds) a)) refl
 
-    by_cases : (a : ℕ) (d : SmallVec HalfEdge) → a < length m.atoms → (get_or new a d).items ≡ wanted m bond a
+    by_cases : (a : ℕ) (d : SmallVec HalfEdge) → a < n → (get_or new a d).items ≡ wanted bonds bond a
     by_cases a d h = elim (cases_eq a bond.first.0) [
-      | inl first ↦ subst (λ (k : ℕ). (get_or new k d).items ≡ wanted m bond k) (sym first) (here_first d)
+      | inl first ↦ subst (λ (k : ℕ). (get_or new k d).items ≡ wanted bonds bond k) (sym first) (here_first d)
       | inr first ↦ elim (cases_eq a bond.second.0) [
-        | inl second ↦ subst (λ (k : ℕ). (get_or new k d).items ≡ wanted m bond k) (sym second) (here_second d)
+        | inl second ↦ subst (λ (k : ℕ). (get_or new k d).items ≡ wanted bonds bond k) (sym second) (here_second d)
         | inr second ↦ elsewhere a d h first second
       ]
     ]
 
-    each_with_bond : (a : ℕ) (d : SmallVec HalfEdge) → a < length m.atoms → (get_or new a d).items ≡ half_edges_by (reverse (m.bonds ++ bond ∷ [])) a
-    each_with_bond a d h = rw (reverse_push m.bonds bond) (by_cases a d h)
+    each_with_bond : (a : ℕ) (d : SmallVec HalfEdge) → a < n → (get_or new a d).items ≡ half_edges_by (reverse (bonds ++ bond ∷ [])) a
+    each_with_bond a d h = rw (reverse_push bonds bond) (by_cases a d h)
+
+-- the next bond of a list
+pub hold_next : (n : ℕ) (bonds : List Bond) (i : ℕ) (d : Bond) (old new : List (SmallVec HalfEdge)) → All (IsBond n) bonds → i < length bonds
+    → HoldAt n (take i bonds) old → Gains (take i bonds) old new (get_or bonds i d) (record { 0 = i }) → HoldAt n (take (i + 1) bonds) new
+hold_next n bonds i d old new all within holds gains =
+    rw (take_more bonds i d within) (hold_one_more n (take i bonds) old new (get_or bonds i d) (record { 0 = i }) holds (all i d within) gains)
+
+with_bond-HoldsHalfEdges : (m : Molecule) (old new : List (SmallVec HalfEdge)) (bond : Bond) (id : BondId) → HoldsHalfEdges m old → IsBond (length m.atoms) bond
+    → length new ≡ length old → Gains m.bonds old new bond id → HoldsHalfEdges (with_bond m bond) new
+with_bond-HoldsHalfEdges m old new bond id holds fits count gains = record {
+  count = count ∙ holds.count;
+  each = hold_one_more (length m.atoms) m.bonds old new bond id holds.each fits gains;
+}
 
 pub adds_atom : (m : Molecule) (lists more : List (SmallVec HalfEdge)) (atom : Atom) (atoms : List Atom) (centres : List (Option (List Slot))) (capacity : ℕ)
     → IsMolecule m × HoldsHalfEdges m lists → length m.atoms ≢ 999 → atoms ≡ m.atoms ++ atom ∷ [] → centres ≡ m.centres ++ None ∷ []
@@ -225,14 +236,19 @@ adds_atom m lists more atom atoms centres capacity holds room e f g =
 pub adds_bond : (m : Molecule) (old new : List (SmallVec HalfEdge)) (bond : Bond) (id : BondId) (bonds : List Bond) (sides : List (Option Sides))
     → IsMolecule m × HoldsHalfEdges m old → IsBond (length m.atoms) bond → are_joined m.bonds bond.first.0 bond.second.0 ≡ false
     → slice_get m.centres bond.first.0 ≡ Some None → slice_get m.centres bond.second.0 ≡ Some None
-    → length m.bonds ≢ 999 → bonds ≡ m.bonds ++ bond ∷ [] → sides ≡ m.sides ++ None ∷ [] → Gains m old new bond id
+    → length m.bonds ≢ 999 → bonds ≡ m.bonds ++ bond ∷ [] → sides ≡ m.sides ++ None ∷ []
+    → length new ≡ length old → Gains m.bonds old new bond id
     → IsMolecule (record m { bonds = bonds; sides = sides }) × HoldsHalfEdges (record m { bonds = bonds; sides = sides }) new
-adds_bond m old new bond id bonds sides holds fits free first_free second_free room e f gains =
-    rw (e, f) (with_bond-IsMolecule m bond holds.0 fits free first_free second_free room, with_bond-HoldsHalfEdges m old new bond id holds.1 fits gains)
+adds_bond m old new bond id bonds sides holds fits free first_free second_free room e f count gains =
+    rw (e, f) (with_bond-IsMolecule m bond holds.0 fits free first_free second_free room, with_bond-HoldsHalfEdges m old new bond id holds.1 fits count gains)
 
--- no atom has more half-edges than the molecule has bonds
+-- no atom has more half-edges than there are bonds
+pub few_held : (n : ℕ) (bonds : List Bond) (lists : List (SmallVec HalfEdge)) → HoldAt n bonds lists → (a : ℕ) (d : SmallVec HalfEdge) → a < n
+    → length (get_or lists a d).items ≤ length bonds
+few_held n bonds lists holds a d h =
+    let each : length (get_or lists a d).items ≡ degree (reverse bonds) a = ap (λ (xs : List HalfEdge). length xs) (holds a d h) ∙ length-half_edges_by (reverse bonds) a in
+    omega (arith, each, degree_le (reverse bonds) a, length-reverse bonds)
+
 pub few_half_edges : (m : Molecule) (lists : List (SmallVec HalfEdge)) → IsMolecule m × HoldsHalfEdges m lists → (a : ℕ) (d : SmallVec HalfEdge) → a < length m.atoms
     → length (get_or lists a d).items ≤ 999
-few_half_edges m lists holds a d h =
-    let each : length (get_or lists a d).items ≡ degree (reverse m.bonds) a = ap (λ (xs : List HalfEdge). length xs) (holds.1.each a d h) ∙ length-half_edges_by (reverse m.bonds) a in
-    omega (arith, each, degree_le (reverse m.bonds) a, length-reverse m.bonds, holds.0.few_bonds)
+few_half_edges m lists holds a d h = omega (arith, few_held (length m.atoms) m.bonds lists holds.1.each a d h, holds.0.few_bonds)

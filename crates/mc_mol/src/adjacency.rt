@@ -1,4 +1,4 @@
-use crate::HalfEdge;
+use crate::{Bond, HalfEdge};
 use mc_base::{AtomId, BondId};
 use smallvec::SmallVec;
 use std::alloc::{AllocError, Global};
@@ -10,9 +10,11 @@ pub struct Adjacency {
 }
 
 impl Adjacency {
-    ghost use Rattle.std.specs.Prelude.{◌≡◌, ◌≢◌, ◌+◌, ◌^◌, ◌<◌, ◌≤◌, ◌++◌, [], ◌∷◌, ℕ, length, vec_len, vec_capacity, IfOk, OnOk, OnErr, slice_index_or};
+    ghost use Rattle.std.specs.Prelude.{◌≡◌, ◌≢◌, ◌+◌, ◌^◌, ◌<◌, ◌≤◌, ◌++◌, [], ◌∷◌, ℕ, length, reverse, vec_len, vec_capacity, All, IsOk, IfOk, OnOk, slice_index_or};
     ghost use Rattle.smallvec.specs.SmallVec.{SmallVec as Items, HasRoomFor};
     ghost use Rattle.mc_mol.specs.declared.parts.HalfEdge.{HalfEdge as Half};
+    ghost use Rattle.mc_mol.specs.HalfEdges.{half_edges_by};
+    ghost use Rattle.mc_mol.specs.WellFormed.{IsBond};
 
     pub fn new(alloc: Global) -> Adjacency
         ensures { result.lists.items ≡ [] }
@@ -22,13 +24,30 @@ impl Adjacency {
         }
     }
 
-    /// Room for the lists of so many atoms.
-    pub fn with_room(alloc: Global, atoms: usize) -> Result<Adjacency, AllocError>
-        ensures { IfOk result (λ adjacency. adjacency.lists.items ≡ []) }
+    /// The empty lists of so many atoms.
+    fn without_bonds(alloc: Global, atoms: usize) -> Result<Adjacency, AllocError>
+        ensures count { IfOk result (λ adjacency. length adjacency.lists.items ≡ atoms) }
+        ensures empty { IfOk result (λ adjacency. (a : ℕ) (d : Items Half) → a < atoms → (slice_index_or adjacency.lists.items a d).items ≡ []) }
     {
-        Ok(Adjacency {
-            lists: Vec::with_capacity(alloc, atoms)?,
-        })
+        let mut lists = Vec::with_capacity(alloc, atoms)?;
+        for _ in 0..atoms {
+            lists.push_reserved(SmallVec::new(alloc));
+        }
+        Ok(Adjacency { lists })
+    }
+
+    /// The lists of so many atoms with these bonds.
+    pub fn of_bonds(alloc: Global, atoms: usize, bonds: &[Bond]) -> Result<Adjacency, AllocError>
+        requires few { length bonds.now ≤ 999 }
+        requires bonds { All (IsBond atoms) bonds.now }
+        ensures count { IfOk result (λ adjacency. length adjacency.lists.items ≡ atoms) }
+        ensures each { IfOk result (λ adjacency. (a : ℕ) (d : Items Half) → a < atoms → (slice_index_or adjacency.lists.items a d).items ≡ half_edges_by (reverse bonds.now) a) }
+    {
+        let mut adjacency = Adjacency::without_bonds(alloc, atoms)?;
+        for (k, bond) in bonds.iter().enumerate() {
+            adjacency.join(BondId(k as u32), bond.first, bond.second)?;
+        }
+        Ok(adjacency)
     }
 
     /// Takes room for the list of one more atom.
@@ -67,30 +86,30 @@ impl Adjacency {
         Ok(())
     }
 
-    /// Adds a half-edge at an atom that has room for it.
-    fn push_at(&mut self, a: usize, half: HalfEdge)
-        requires in_range { a < length self.old.lists.items }
-        requires room { (d : Items Half) → HasRoomFor (slice_index_or self.old.lists.items a d) 1 }
+    /// Adds a half-edge at an atom.
+    fn push_at(&mut self, a: usize, half: HalfEdge) -> Result<(), AllocError>
+        requires { a < length self.old.lists.items }
         ensures count { length self.new.lists.items ≡ length self.old.lists.items }
-        ensures here { (d : Items Half) → (slice_index_or self.new.lists.items a d).items ≡ (slice_index_or self.old.lists.items a d).items ++ half ∷ [] }
+        ensures here { OnOk result ((d : Items Half) → (slice_index_or self.new.lists.items a d).items ≡ (slice_index_or self.old.lists.items a d).items ++ half ∷ []) }
+        ensures succeeds { ((d : Items Half) → HasRoomFor (slice_index_or self.old.lists.items a d) 1) → IsOk result }
         ensures others { (k : ℕ) (d : Items Half) → k ≢ a → slice_index_or self.new.lists.items k d ≡ slice_index_or self.old.lists.items k d }
     {
-        self.lists[a].push_reserved(half);
+        self.lists[a].push(half)?;
+        Ok(())
     }
 
     /// Adds the two half-edges of a bond, each with the place of the other.
-    pub fn join(&mut self, bond: BondId, first: AtomId, second: AtomId)
+    pub fn join(&mut self, bond: BondId, first: AtomId, second: AtomId) -> Result<(), AllocError>
         requires first { first.0 < length self.old.lists.items }
         requires second { second.0 < length self.old.lists.items }
         requires different { first.0 ≢ second.0 }
         requires first_few { (d : Items Half) → length (slice_index_or self.old.lists.items first.0 d).items < 2 ^ 32 }
         requires second_few { (d : Items Half) → length (slice_index_or self.old.lists.items second.0 d).items < 2 ^ 32 }
-        requires first_room { (d : Items Half) → HasRoomFor (slice_index_or self.old.lists.items first.0 d) 1 }
-        requires second_room { (d : Items Half) → HasRoomFor (slice_index_or self.old.lists.items second.0 d) 1 }
         ensures count { length self.new.lists.items ≡ length self.old.lists.items }
-        ensures at_first { (d e : Items Half) → (slice_index_or self.new.lists.items first.0 d).items ≡ (slice_index_or self.old.lists.items first.0 d).items ++ record { bond = bond; to = second; twin = length (slice_index_or self.old.lists.items second.0 e).items } ∷ [] }
-        ensures at_second { (d e : Items Half) → (slice_index_or self.new.lists.items second.0 d).items ≡ (slice_index_or self.old.lists.items second.0 d).items ++ record { bond = bond; to = first; twin = length (slice_index_or self.old.lists.items first.0 e).items } ∷ [] }
+        ensures at_first { OnOk result ((d e : Items Half) → (slice_index_or self.new.lists.items first.0 d).items ≡ (slice_index_or self.old.lists.items first.0 d).items ++ record { bond = bond; to = second; twin = length (slice_index_or self.old.lists.items second.0 e).items } ∷ []) }
+        ensures at_second { OnOk result ((d e : Items Half) → (slice_index_or self.new.lists.items second.0 d).items ≡ (slice_index_or self.old.lists.items second.0 d).items ++ record { bond = bond; to = first; twin = length (slice_index_or self.old.lists.items first.0 e).items } ∷ []) }
         ensures others { (k : ℕ) (d : Items Half) → k ≢ first.0 → k ≢ second.0 → slice_index_or self.new.lists.items k d ≡ slice_index_or self.old.lists.items k d }
+        ensures succeeds { ((d : Items Half) → HasRoomFor (slice_index_or self.old.lists.items first.0 d) 1) → ((d : Items Half) → HasRoomFor (slice_index_or self.old.lists.items second.0 d) 1) → IsOk result }
     {
         let at_first = self.of(first.0 as usize).len() as u32;
         let at_second = self.of(second.0 as usize).len() as u32;
@@ -101,7 +120,7 @@ impl Adjacency {
                 to: second,
                 twin: at_second,
             },
-        );
+        )?;
         self.push_at(
             second.0 as usize,
             HalfEdge {
@@ -109,6 +128,6 @@ impl Adjacency {
                 to: first,
                 twin: at_first,
             },
-        );
+        )
     }
 }

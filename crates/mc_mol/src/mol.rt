@@ -1,4 +1,4 @@
-ghost use Rattle.std.specs.Prelude.{◌≡◌, ◌==◌};
+ghost use Rattle.std.specs.Prelude.{◌≡◌, ◌==◌, IfOk, None, replicate};
 ghost use Rattle.std.specs.List.{list_any};
 
 use crate::adjacency::Adjacency;
@@ -71,8 +71,9 @@ impl Model for Mol {
 }
 
 impl Mol {
-    ghost use Rattle.std.specs.Prelude.{◌≡◌, ◌≢◌, ◌+◌, ◌<◌, ◌≤◌, ◌++◌, [], ◌∷◌, ◌↔◌, length, All, OnOk, OnErr, IfOk, Some, None, slice_get, slice_set, Err, true, false};
-    ghost use Rattle.mc_mol.specs.Molecule.{are_joined};
+    ghost use Rattle.std.specs.Prelude.{◌≡◌, ◌≢◌, ◌+◌, ◌<◌, ◌≤◌, ◌++◌, [], ◌∷◌, ◌↔◌, length, replicate, All, AllPairs, OnOk, OnErr, IfOk, Some, None, slice_get, slice_set, Err, true, false};
+    ghost use Rattle.mc_mol.specs.declared.parts.Bond.{Bond as Joining};
+    ghost use Rattle.mc_mol.specs.Molecule.{joins, are_joined};
     ghost use Rattle.mc_mol.specs.WellFormed.{IsBond, IsMolecule, IsPlaceList, SidesFit};
     ghost use Rattle.mc_mol.specs.HalfEdges.{half_edges, AllHaveTwins};
 
@@ -89,16 +90,23 @@ impl Mol {
         }
     }
 
-    /// The molecule with no atoms, with room for so many atoms and bonds.
-    pub fn with_room(alloc: Global, atoms: usize, bonds: usize) -> Result<Mol, NoMemory>
-        ensures { IfOk result (λ mol. mol ≡ record { atoms = []; bonds = []; centres = []; sides = [] }) }
+    /// The molecule of these atoms and bonds, without stereo. It keeps the two lists, and fails only for want of memory.
+    pub fn of(alloc: Global, atoms: Vec<Atom>, bonds: Vec<Bond>) -> Result<Mol, NoMemory>
+        requires few_atoms { length atoms.items ≤ 999 }
+        requires few_bonds { length bonds.items ≤ 999 }
+        requires bonds { All (IsBond (length atoms.items)) bonds.items }
+        requires once { AllPairs (λ (b c : Joining). joins b c.first.0 c.second.0 ≡ false) bonds.items }
+        ensures { IfOk result (λ mol. mol ≡ record { atoms = atoms.items; bonds = bonds.items; centres = replicate (length atoms.items) None; sides = replicate (length bonds.items) None }) }
     {
+        let adjacency = Adjacency::of_bonds(alloc, atoms.len(), &bonds)?;
+        let centres = nones(alloc, atoms.len())?;
+        let sides = nones(alloc, bonds.len())?;
         Ok(Mol {
-            atoms: Vec::with_capacity(alloc, atoms)?,
-            bonds: Vec::with_capacity(alloc, bonds)?,
-            centres: Vec::with_capacity(alloc, atoms)?,
-            sides: Vec::with_capacity(alloc, bonds)?,
-            adjacency: Adjacency::with_room(alloc, atoms)?,
+            atoms,
+            bonds,
+            centres,
+            sides,
+            adjacency,
         })
     }
 
@@ -197,7 +205,10 @@ impl Mol {
         self.adjacency.reserve_at(first.0 as usize)?;
         self.adjacency.reserve_at(second.0 as usize)?;
         let bond = BondId(count as u32);
-        self.adjacency.join(bond, first, second);
+        match self.adjacency.join(bond, first, second) {
+            Ok(()) => {}
+            Err(_) => unreachable!(),
+        }
         self.bonds.push_reserved(Bond {
             first,
             second,
@@ -249,6 +260,13 @@ impl Mol {
     {
         finds(self.bonds_of(first), second)
     }
+}
+
+/// As many times none.
+fn nones<T: Copy>(alloc: Global, count: usize) -> Result<Vec<Option<T>>, AllocError>
+    ensures { IfOk result (λ list. list.items ≡ replicate count None) }
+{
+    vec![in alloc; None; count]
 }
 
 /// Whether one of the half-edges leads to this atom.

@@ -5,19 +5,6 @@ ghost use Rattle.mc_mol.specs.WellFormed.{IsBond};
 use crate::Bond;
 use std::alloc::{AllocError, Global};
 
-/// As many zeros.
-fn zeros(alloc: Global, count: usize) -> Result<Vec<u32>, AllocError>
-    requires { count ≤ 999 }
-    ensures count { IfOk result (λ sums. length sums.items ≡ count) }
-    ensures each { IfOk result (λ sums. (k : ℕ) → get_or sums.items k 0 ≡ 0) }
-{
-    let mut sums = Vec::with_capacity(alloc, count)?;
-    for _ in 0..count {
-        sums.push(0)?;
-    }
-    Ok(sums)
-}
-
 /// Adds the order of a bond to the sum of one of its atoms.
 fn add(sums: &mut [u32], atom: u32, order: u8)
     requires inside { atom < length sums.old }
@@ -37,7 +24,7 @@ pub fn bond_sums(alloc: Global, bonds: &[Bond], atoms: usize) -> Result<Vec<u32>
     ensures each { IfOk result (λ sums. (k : ℕ) → get_or sums.items k 0 ≡ bond_sum bonds.now k) }
     ensures small { IfOk result (λ sums. (k : ℕ) → get_or sums.items k 0 ≤ 65535) }
 {
-    let mut sums = zeros(alloc, atoms)?;
+    let mut sums = vec![in alloc; 0; atoms]?;
     for bond in bonds {
         add(sums.as_mut_slice(), bond.first.0, bond.order);
         add(sums.as_mut_slice(), bond.second.0, bond.order);

@@ -94,12 +94,42 @@ fn an_exchange_is_odd(rt: HostRuntime) -> Result<(), Fail> {
 fn bond(first: u32, second: u32) -> Bond
     ensures first { result.first.0 ≡ first }
     ensures second { result.second.0 ≡ second }
+    ensures order { result.order ≡ 1 }
 {
     Bond {
         first: AtomId(first),
         second: AtomId(second),
         order: 1,
     }
+}
+
+// Atom 0 has one bond more than a list keeps in place.
+#[test]
+fn a_molecule_of_atoms_and_bonds(rt: HostRuntime) -> Result<(), Fail> {
+    let carbons = vec![in rt.alloc(); carbon(); 6]?;
+    let star = [bond(0, 1), bond(2, 0), bond(0, 3), bond(4, 0), bond(0, 5)];
+    let bonds = Vec::from_slice(rt.alloc(), &star)?;
+    let mol = Mol::of(rt.alloc(), carbons, bonds)?;
+    assert_eq!(rt; mol.atom_count(), 6);
+    assert_eq!(rt; mol.bond_count(), 5);
+    assert_eq!(rt; mol.bond(BondId(3)), bond(4, 0));
+    let halves = mol.bonds_of(AtomId(0));
+    assert_eq!(rt; halves.len(), 5);
+    for k in 0..5 {
+        assert_eq!(rt; halves[k].bond, BondId(k as u32));
+        assert_eq!(rt; halves[k].to, AtomId(k as u32 + 1));
+        assert_eq!(rt; halves[k].twin, 0);
+        let back = mol.bonds_of(AtomId(k as u32 + 1));
+        assert_eq!(rt; back.len(), 1);
+        assert_eq!(rt; back[0].to, AtomId(0));
+        assert_eq!(rt; back[0].twin, k as u32);
+        assert_eq!(rt; mol.sides(BondId(k as u32)), None);
+    }
+    for a in 0..6 {
+        assert_eq!(rt; mol.atom(AtomId(a)), carbon());
+        assert_eq!(rt; mol.centre(AtomId(a)), None);
+    }
+    Ok(())
 }
 
 #[test]

@@ -55,7 +55,7 @@ pub fn atoms_with(
 {
     let mut found = Vec::with_capacity(alloc, atoms.len())?;
     for (k, atom) in atoms.iter().enumerate() {
-        found.push(meant_atom(*atom, sums[k]))?;
+        found.push_reserved(meant_atom(*atom, sums[k]));
     }
     Ok(found)
 }

@@ -53,7 +53,7 @@ fn mean(alloc: Global, skeleton: &Skeleton) -> Result<Mol, Stop>
     if let Some(k) = first_hydrogen_on_hydrogen(&atoms) {
         return Err(Stop::Refused(Refusal::at(alloc, Kind::HydrogenOnHydrogen, k as u32 + 1)));
     }
-    let mol = molecule(alloc, &atoms, bonds)?;
+    let mol = molecule(alloc, atoms, bonds)?;
     Ok(mol)
 }
 

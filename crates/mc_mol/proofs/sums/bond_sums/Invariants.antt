@@ -1,4 +1,4 @@
-use Rattle.std.proofs.Common.{◌≡◌, ◌≤◌, ◌<◌, ◌*◌, ℕ, length, get_or, take}
+use Rattle.std.proofs.Common.{◌≡◌, ◌≤◌, ◌*◌, ℕ, length, get_or, take}
 use Rattle.mc_mol.specs.Molecule.{bond_sum}
 use Rattle.mc_mol.proofs.sums.bond_sums.Given as goal
 

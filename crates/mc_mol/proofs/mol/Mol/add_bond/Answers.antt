@@ -43,8 +43,7 @@ invariant_of-self-2 c =
     let bonds : c.push_reserved.new.self.items ≡ m.bonds ++ bond ∷ [] = cc in
     let sides : c.push_reserved-2.new.self.items ≡ m.sides ++ None ∷ [] = cc in
     let number : c.len-count.result ≡ length m.bonds = omega arith in
-    let gains = gains_of m inside.adjacency.lists.items c.reserve_at-2.new.self.lists.items c.join.new.self.lists.items bond (record { 0 = c.len-count.result }) number
-    (c.reserve_at-2.ensures.count ∙ c.reserve_at.ensures.count)
+    let gains = gains_of m.bonds inside.adjacency.lists.items c.reserve_at-2.new.self.lists.items c.join.new.self.lists.items bond (record { 0 = c.len-count.result }) number
     (λ k d. c.reserve_at-2.ensures.items k d ∙ c.reserve_at.ensures.items k d)
-    c.join.ensures.count c.join.ensures.at_first c.join.ensures.at_second c.join.ensures.others in
-    adds_bond m inside.adjacency.lists.items c.join.new.self.lists.items bond (record { 0 = c.len-count.result }) _ _ c.self.invariant fits free first_free second_free room bonds sides gains
+    c.in-Ok.ensures.at_first c.in-Ok.ensures.at_second c.join.ensures.others in
+    adds_bond m inside.adjacency.lists.items c.join.new.self.lists.items bond (record { 0 = c.len-count.result }) _ _ c.self.invariant fits free first_free second_free room bonds sides (c.join.ensures.count ∙ c.reserve_at-2.ensures.count ∙ c.reserve_at.ensures.count) gains
