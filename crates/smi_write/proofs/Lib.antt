@@ -39,6 +39,7 @@ mod SomeAtoms
 mod Rows
 mod Stacked
 mod Lowest
+mod Neighbours
 mod Advance
 mod BondOrders
 mod OpenNumbers

@@ -4,6 +4,7 @@ use Rattle.mc_base.specs.declared.ids.AtomId.{AtomId}
 use Rattle.mc_mol.specs.Molecule.{Molecule}
 use Rattle.smi_mean.specs.Order.{Graph, graph_of, Step, unwritten_neighbour, steps, place, parents, atoms}
 use Rattle.smi_write.specs.declared.order.Walk.{Walk}
+use Rattle.smi_write.specs.WrittenOrder.{parent_orders}
 
 -- The stack has the atoms of these steps in their order, but some that have no unwritten neighbour.
 abbrev pub Stacked : Graph → List Step → List Step → List ℕ → Type 0
@@ -21,9 +22,11 @@ pub record HoldsSteps (g : Graph) (before : List Step) (atom_list : List AtomId)
   pub stacked : Stacked g before before (reverse stack)
 
 -- the first steps are written, with these atoms above the stack
-abbrev pub IsWalkWith : Molecule → Walk → List ℕ → Type 0
-IsWalkWith m w more = HoldsSteps (graph_of m) (steps (graph_of m) (length w.atoms.items)) w.atoms.items w.parents.items w.places.items (w.stack.items ++ more)
+pub record IsWalkWith (m : Molecule) (w : Walk) (more : List ℕ) : Type 0 where
+  pub holds : HoldsSteps (graph_of m) (steps (graph_of m) (length w.atoms.items)) w.atoms.items w.parents.items w.places.items (w.stack.items ++ more)
+  pub orders_are : w.orders.items ≡ parent_orders (graph_of m) (steps (graph_of m) (length w.atoms.items))
 
--- what is left to do: each atom is put onto the stack once, and taken off once
-abbrev pub left : Molecule → Walk → ℕ
-left m w = 2 * (length m.atoms - length w.atoms.items) + length w.stack.items
+-- What is left to do, with these atoms above the stack: an atom comes onto the stack at most once behind each one that is
+-- written, and is taken off once.
+abbrev pub left : Molecule → Walk → List ℕ → ℕ
+left m w more = 2 * (length m.atoms - length w.atoms.items) + length (w.stack.items ++ more)
