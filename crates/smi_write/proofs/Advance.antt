@@ -15,8 +15,8 @@ use Rattle.mc_mol.proofs.Lists.{length-slice_set, reverse_push}
 use Rattle.mc_mol.proofs.Halves.{are_joined-half_edges}
 use Rattle.smi_mean.specs.Order.{Graph, graph_of, Step, least, some_if, is_written, unwritten_neighbour, behind, beginning, next_step, onto, steps, order, place, parent_place, parents, atoms}
 use Rattle.smi_write.specs.Lesser.{lowest}
-use Rattle.smi_write.specs.declared.order.Unwritten.{Unwritten}
-use Rattle.smi_write.specs.Unwritten.{nothing, see_all, IsBondTo, Sees}
+use Rattle.smi_write.specs.declared.order.Seen.{Seen}
+use Rattle.smi_write.specs.Seen.{nothing, see_all, IsBondTo, Sees}
 use Rattle.smi_write.specs.WrittenOrder.{order_behind, parent_orders}
 use Rattle.smi_write.specs.Progress.{Stacked, HoldsSteps}
 use Rattle.smi_write.proofs.Least.{test_other, test_same, not_false, not_true, not_is, and_true, or_false}
@@ -86,19 +86,19 @@ neighbour_is m before place_list a places twins written =
         none false false = refl
 
 -- what is seen of an atom's neighbours
-pub seen : (m : Molecule) (before : List Step) (place_list : List ℕ) (a : AtomId) → IsMolecule m → ((u : ℕ) → u < length m.atoms → get_or place_list u 0 ≡ place before u)
-    → AllHaveTwins m a → 0 < place before a.0 → Sees m before a.0 (see_all place_list nothing (half_edges m a.0))
-seen m before place_list a is places twins written =
-    let least : some_if found.some found.least ≡ unwritten_neighbour (graph_of m) before a.0 = least_is_lowest place_list (half_edges m a.0) nothing ∙ neighbour_is m before place_list a places twins written in
+pub seen : (m : Molecule) (before : List Step) (k p : ℕ) (place_list : List ℕ) (a : AtomId) → IsMolecule m → ((u : ℕ) → u < length m.atoms → get_or place_list u 0 ≡ place before u)
+    → AllHaveTwins m a → 0 < place before a.0 → Sees m before a.0 (see_all k p place_list nothing (half_edges m a.0))
+seen m before k p place_list a is places twins written =
+    let least : some_if found.some found.least ≡ unwritten_neighbour (graph_of m) before a.0 = least_is_lowest k p place_list (half_edges m a.0) nothing ∙ neighbour_is m before place_list a places twins written in
     record {
       none = λ e. sym least ∙ ap (λ (b : Bool). some_if b found.least) e;
       least = λ e. sym least ∙ ap (λ (b : Bool). some_if b found.least) e;
       only = λ e f. least_none _ (length m.atoms) (λ w less. not_true (are_joined m.bonds a.0 w && not (found.least == w || is_written before w)) (λ h. spent f w less h));
-      bond = λ e. true_of_found (λ v b. IsBondTo m a.0 v b.0) place_list (half_edges m a.0) nothing bond_to (λ h. absurd (false≢true h)) e;
+      bond = λ e. true_of_found (λ v b. IsBondTo m a.0 v b.0) k p place_list (half_edges m a.0) nothing bond_to (λ h. absurd (false≢true h)) e;
     }
   where
-    found : Unwritten
-    found = see_all place_list nothing (half_edges m a.0)
+    found : Seen
+    found = see_all k p place_list nothing (half_edges m a.0)
 
     bond_to : (i : ℕ) (half : HalfEdge) → slice_get (half_edges m a.0) i ≡ Some half → IsBondTo m a.0 half.to.0 half.bond.0
     bond_to i half at = let t = twins i half at in record { bond = t.bond; is_bond = t.is_bond; order = half_order m a i half.to.0 half t.bond is twins at refl t.is_bond }
@@ -108,8 +108,8 @@ seen m before place_list a is places twins written =
         let both = and_true (are_joined m.bonds a.0 w) (not (found.least == w || is_written before w)) h in
         let neither = or_false (found.least == w) (is_written before w) (not_is (found.least == w || is_written before w) both.1) in
         let free : (get_or place_list w 0 == 0) ≡ true = ap (λ (x : ℕ). x == 0) (places w less) ∙ is_free before w ∙ ap not neither.1 in
-        let ne : a.0 ≢ w = λ e. let z = unwritten_place before w neither.1 in let p : place before a.0 ≡ place before w = ap (place before) e in omega arith in
-        let same = only_one place_list (half_edges m a.0) nothing refl f w (are_joined-half_edges m a.0 w ne ∙ both.0) free in
+        let ne : a.0 ≢ w = λ e. let z = unwritten_place before w neither.1 in let q : place before a.0 ≡ place before w = ap (place before) e in omega arith in
+        let same = only_one k p place_list (half_edges m a.0) nothing refl f w (are_joined-half_edges m a.0 w ne ∙ both.0) free in
         false≢true (sym neither.0 ∙ ap (λ (x : ℕ). x == w) same ∙ test_same w)
 
 -- One more step

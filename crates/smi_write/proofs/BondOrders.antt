@@ -13,7 +13,7 @@ use Rattle.mc_mol.specs.WellFormed.{IsMolecule}
 use Rattle.mc_mol.specs.HalfEdges.{half_edges, AllHaveTwins}
 use Rattle.mc_mol.proofs.Halves.{are_joined-half_edges}
 use Rattle.smi_mean.specs.Order.{order_between}
-use Rattle.smi_write.specs.Unwritten.{IsBondTo}
+use Rattle.smi_write.specs.Seen.{IsBondTo}
 use Rattle.smi_write.proofs.Least.{or_true, and_true, or_false, same_of, some_same}
 
 -- bonds that join the same two atoms join each other's ends

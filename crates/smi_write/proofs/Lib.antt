@@ -45,6 +45,7 @@ mod BondOrders
 mod OpenNumbers
 mod Partners
 mod OpenedRings
+mod Marks
 mod LaterChildren
 mod Befores
 mod TextSteps

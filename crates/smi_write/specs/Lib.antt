@@ -1,6 +1,6 @@
 pub mod Nested
 pub mod Lesser
-pub mod Unwritten
+pub mod Seen
 pub mod OpenRings
 pub mod Opening
 pub mod Progress

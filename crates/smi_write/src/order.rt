@@ -1,13 +1,14 @@
 //! The order in which the atoms of a molecule are written: a walk with a stack, which goes on behind the
 //! latest atom that has an unwritten neighbour.
 
+ghost use Rattle.std.specs.List.{list_any};
 ghost use Rattle.std.specs.Prelude.{◌≡◌, ◌++◌, [], ◌∷◌, ◌+◌, ◌-◌, ◌^◌, ◌<◌, ◌≤◌, ℕ, All, OnOk, IfOk, length, slice_set, slice_index_or, None, option_to_list, if◌then◌else◌};
 ghost use Rattle.mc_mol.specs.WellFormed.{IsMolecule};
 ghost use Rattle.smi_mean.specs.Order.{graph_of, steps};
-ghost use Rattle.smi_write.specs.Progress.{IsWalkWith, left};
+ghost use Rattle.smi_write.specs.Progress.{HoldsMarks, IsWalkWith, left};
 ghost use Rattle.smi_write.specs.WrittenOrder.{IsWrittenOrder};
 ghost use Rattle.smi_write.specs.Lesser.{lesser};
-ghost use Rattle.smi_write.specs.Unwritten.{Sees, nothing, see, see_all};
+ghost use Rattle.smi_write.specs.Seen.{Sees, leads_back, mark_all, nothing, see, see_all};
 
 use mc_base::{AtomId, BondId, NoMemory};
 use mc_mol::{HalfEdge, Mol};
@@ -24,6 +25,8 @@ struct Walk {
     orders: Vec<u8>,
     /// the place of each atom, from 1, or 0 where it isn't written
     places: Vec<u32>,
+    /// by place, whether a ring bond leads to a later atom
+    opens: Vec<bool>,
     /// the written atoms that may have unwritten neighbours, the latest last
     stack: Vec<u32>,
 }
@@ -37,6 +40,7 @@ impl Walk {
         ensures parents { OnOk result (self.new.parents.items ≡ self.old.parents.items ++ parent ∷ []) }
         ensures orders { OnOk result (self.new.orders.items ≡ self.old.orders.items ++ order ∷ []) }
         ensures places { OnOk result (self.new.places.items ≡ slice_set self.old.places.items atom (length self.old.atoms.items + 1)) }
+        ensures opens { OnOk result (self.new.opens.items ≡ self.old.opens.items) }
         ensures stack { OnOk result (self.new.stack.items ≡ self.old.stack.items) }
     {
         self.places[atom as usize] = self.atoms.len() as u32 + 1;
@@ -46,13 +50,29 @@ impl Walk {
         Ok(())
     }
 
-    /// The unwritten neighbours of the latest atom.
-    fn neighbours(&self, mol: &Mol, atom: u32) -> Unwritten
+    /// What is seen of the neighbours of the latest atom, or of the latest one of the stack.
+    fn look(&mut self, mol: &Mol, atom: u32) -> Seen
         requires molecule { IsMolecule mol.now }
-        requires walk { IsWalkWith mol.now self.now (atom ∷ []) }
-        ensures { Sees mol.now (steps (graph_of mol.now) (length self.now.atoms.items)) atom result }
+        requires walk { IsWalkWith mol.now self.old (atom ∷ []) }
+        ensures walk { IsWalkWith mol.now self.new (atom ∷ []) }
+        ensures seen { Sees mol.now (steps (graph_of mol.now) (length self.new.atoms.items)) atom result }
+        ensures marks { HoldsMarks mol.now self.new.parents.items self.new.places.items [] self.new.opens.items }
+        ensures left { left mol.now self.new (atom ∷ []) ≡ left mol.now self.old (atom ∷ []) }
+        ensures kept { self.new.places ≡ self.old.places }
     {
-        neighbours_seen(mol.bonds_of(AtomId(atom)), &self.places)
+        let halves = mol.bonds_of(AtomId(atom));
+        let place = self.places[atom as usize];
+        let parent = self.parents[place as usize - 1];
+        let found = neighbours_seen(halves, &self.places, place, parent);
+        mark_if(
+            found.back,
+            &mut self.opens,
+            halves,
+            &self.places,
+            place,
+            parent,
+        );
+        found
     }
 
     /// Goes on behind an atom: to its least unwritten neighbour, and where it has none to the latest atom of
@@ -65,7 +85,7 @@ impl Walk {
         ensures left { IfOk result (λ next. left mol.now self.new (option_to_list next) < left mol.now self.old (atom ∷ [])) }
         ensures kept { OnOk result ((v : ℕ) → 0 < slice_index_or self.old.places.items v 0 → 0 < slice_index_or self.new.places.items v 0) }
     {
-        let found = self.neighbours(mol, atom);
+        let found = self.look(mol, atom);
         if !found.some {
             return Ok(self.stack.pop());
         }
@@ -101,50 +121,88 @@ fn push_if(stack: &mut Vec<u32>, more: bool, atom: u32) -> Result<(), NoMemory>
     Ok(())
 }
 
-/// The unwritten neighbours of an atom.
+/// What is seen of the neighbours of an atom.
 #[derive(Clone, Copy)]
-struct Unwritten {
-    /// whether there is one
+struct Seen {
+    /// whether there is an unwritten one
     some: bool,
     /// whether there is another
     more: bool,
-    /// the least of them
+    /// whether a ring bond leads back to a written one
+    back: bool,
+    /// the least unwritten one
     least: u32,
-    /// the bond to the least of them
+    /// the bond to it
     bond: BondId,
 }
 
-impl Unwritten {
-    /// One half-edge more, which leads to an unwritten atom or not. There is no jump that the processor could
-    /// guess wrong.
-    fn see(self, half: HalfEdge, free: bool) -> Unwritten
-        ensures { result ≡ see self half free }
+impl Seen {
+    /// One half-edge more, which leads to an unwritten atom or not, and back by a ring bond or not. There is no
+    /// jump that the processor could guess wrong.
+    fn see(self, half: HalfEdge, free: bool, back: bool) -> Seen
+        ensures { result ≡ see self half free back }
     {
         let lower = free & (!self.some | (half.to.0 < self.least));
-        Unwritten {
+        Seen {
             some: self.some | free,
             more: self.more | (self.some & free),
+            back: self.back | back,
             least: if lower { half.to.0 } else { self.least },
             bond: if lower { half.bond } else { self.bond },
         }
     }
 }
 
-/// The unwritten atoms to which these half-edges lead.
-fn neighbours_seen(halves: &[HalfEdge], places: &[u32]) -> Unwritten
-    requires { All (λ half. half.to.0 < length places.now) halves.now }
-    ensures { result ≡ see_all places.now nothing halves.now }
+/// Whether a ring bond leads from the atom at a place, which has this parent, back to the atom at another
+/// one. All are places from 1, and 0 is none.
+fn leads_back(place: u32, parent: u32, at: u32) -> bool
+    ensures { result ≡ leads_back place parent at }
 {
-    let mut found = Unwritten {
+    (at > 0) & (at < place) & (at != parent)
+}
+
+/// The neighbours to which these half-edges of the atom at a place lead.
+fn neighbours_seen(halves: &[HalfEdge], places: &[u32], place: u32, parent: u32) -> Seen
+    requires { All (λ half. half.to.0 < length places.now) halves.now }
+    ensures { result ≡ see_all place parent places.now nothing halves.now }
+{
+    let mut found = Seen {
         some: false,
         more: false,
+        back: false,
         least: 0,
         bond: BondId(0),
     };
     for half in halves {
-        found = found.see(*half, places[half.to.0 as usize] == 0);
+        let at = places[half.to.0 as usize];
+        found = found.see(*half, at == 0, leads_back(place, parent, at));
     }
     found
+}
+
+/// Marks the atoms to which ring bonds lead back from the atom at a place, if there are any.
+fn mark_if(
+    back: bool,
+    opens: &mut Vec<bool>,
+    halves: &[HalfEdge],
+    places: &[u32],
+    place: u32,
+    parent: u32,
+)
+    requires back { back ≡ list_any (λ half. leads_back place parent (slice_index_or places.now half.to.0 0)) halves.now }
+    requires within { All (λ half. half.to.0 < length places.now) halves.now }
+    requires low { place ≤ length opens.old.items }
+    ensures { opens.new.items ≡ mark_all place parent places.now opens.old.items halves.now }
+{
+    if !back {
+        return;
+    }
+    for half in halves {
+        let at = places[half.to.0 as usize];
+        if leads_back(place, parent, at) {
+            opens[at as usize - 1] = true;
+        }
+    }
 }
 
 /// The lesser of two numbers, of which the first may be missing.
@@ -168,6 +226,8 @@ pub struct WrittenAtoms {
     pub orders: Vec<u8>,
     /// the place of each atom, from 1
     pub places: Vec<u32>,
+    /// by place, whether a ring bond leads to a later atom
+    pub opens: Vec<bool>,
 }
 
 /// The order in which the atoms of a molecule are written.
@@ -181,6 +241,7 @@ pub fn order(alloc: Global, mol: &Mol) -> Result<WrittenAtoms, NoMemory>
         parents: Vec::with_capacity(alloc, count as usize)?,
         orders: Vec::with_capacity(alloc, count as usize)?,
         places: vec![in alloc; 0; count as usize]?,
+        opens: vec![in alloc; false; count as usize]?,
         stack: Vec::with_capacity(alloc, count as usize)?,
     };
     for root in 0..count {
@@ -194,5 +255,6 @@ pub fn order(alloc: Global, mol: &Mol) -> Result<WrittenAtoms, NoMemory>
         parents: walk.parents,
         orders: walk.orders,
         places: walk.places,
+        opens: walk.opens,
     })
 }

@@ -1,9 +1,11 @@
-use Rattle.std.proofs.Common.{length, refl, ◌<◌, ◌∙◌, ap, ◌≡◌, ℕ, List, sym, arith, map}
+use Rattle.std.proofs.Common.{length, refl, subst, Bool, ◌∷◌, [], ◌<◌, ◌∙◌, ap, ◌≡◌, ℕ, List, sym, arith, map}
 use Rattle.std.specs.Prelude.{slice_index_or}
 use Rattle.mc_base.specs.declared.ids.AtomId.{AtomId}
 use Rattle.smi_mean.specs.Order.{Step, beginning, graph_of, order, steps, atoms, parents, place}
 use Rattle.smi_write.specs.WrittenOrder.{parent_orders}
 use Rattle.smi_write.proofs.Advance.{root_next, root_written, orders_on, few_written, whole, order_whole}
+use Rattle.smi_write.specs.Progress.{HoldsMarks}
+use Rattle.smi_write.proofs.Marks.{marks_written, opens_at}
 use Rattle.smi_write.proofs.order.order.Goals as goal
 
 pub write-requires-clause-few : goal.write-requires-clause-few
@@ -23,6 +25,8 @@ finish-requires-clause-walk c =
       orders_are = orders_on c.args.mol.now (beginning c.loop-root.root) c.loop-root.walk.atoms.items _ _ _ 1
           (root_next c.args.mol.now c.loop-root.walk.atoms.items _ _ c.loop-root.walk.stack.items c.loop-root.root at.walk.holds at.empty below free at.earlier)
           at.walk.orders_are refl c.in_ok-write.ensures.atoms c.in_ok-write.ensures.orders;
+      marks = subst (λ (x : List Bool). HoldsMarks c.args.mol.now c.write.new.self.parents.items c.write.new.self.places.items (c.loop-root.root ∷ []) x) (sym c.in_ok-write.ensures.opens)
+          (marks_written c.args.mol.now _ c.loop-root.walk.atoms.items _ _ _ _ _ c.loop-root.root 0 _ at.walk.holds at.walk.marks c.in_ok-write.ensures.parents c.in_ok-write.ensures.places below);
     }
 
 all : (c : goal.After-drop-walk-2) → length c.loop-root.walk.atoms.items ≡ length c.args.mol.now.atoms
@@ -40,4 +44,8 @@ returns-clause-written c = record {
   places_are = λ u less. c.loop-root.invariant.walk.holds.places_are u less ∙ ap (λ (x : List Step). place x u) (is_order c);
   place_count = c.loop-root.invariant.walk.holds.count;
   count = all c;
+  open_count = c.loop-root.invariant.walk.marks.count;
+  opens_are = opens_at c.args.mol.now _ _ _ c.loop-root.invariant.walk.marks
+      (c.loop-root.invariant.walk.holds.parents_are ∙ ap (λ (x : List Step). parents x) (is_order c))
+      (λ u less. c.loop-root.invariant.walk.holds.places_are u less ∙ ap (λ (x : List Step). place x u) (is_order c));
 }
