@@ -16,7 +16,7 @@ use Rattle.smi_mean.specs.Order.{graph_of, Step, steps, unwritten_neighbour, ord
 use Rattle.smi_mean.specs.Written.{at, has_ring}
 use Rattle.smi_write.specs.Seen.{leads_back, mark_all, mark_one}
 use Rattle.smi_write.specs.Progress.{HoldsSteps, HoldsMarks}
-use Rattle.smi_write.proofs.Least.{and_true, or_true, not_is, some_same, same_of, test_other, test_same}
+use Rattle.smi_write.proofs.Least.{and_true, or_true, not_is, some_same, same_of}
 use Rattle.smi_write.proofs.Walk.{place_le, length_parents}
 use Rattle.smi_write.proofs.Partners.{at_below, place_of_at}
 use Rattle.smi_write.proofs.Advance.{length_list, few_steps, top_is, goes_on}

@@ -1,11 +1,6 @@
-use Rattle.std.proofs.Common.{◌<◌, ◌-◌, ◌∙◌, ap, sym, subst, refl, ℕ, List, length, ◌++◌, arith}
-use Rattle.std.specs.Prelude.{flat_map}
+use Rattle.std.proofs.Common.{sym, refl, arith}
 use Rattle.std.proofs.lemmas.Grind.{common_steps}
-use Rattle.smi_lex.specs.declared.token.TokenKind.{TokenKind}
-use Rattle.smi_mean.specs.Order.{graph_of, order_between}
-use Rattle.smi_mean.specs.Written.{at, spelling}
-use Rattle.smi_write.proofs.Partners.{atom_found, at_below, length_parent_list}
-use Rattle.smi_write.proofs.OpenedRings.{apart_at}
+use Rattle.smi_write.proofs.Partners.{length_parent_list}
 use Rattle.smi_write.proofs.Befores.{has_parent, length_order_list, order_kept, before_is}
 use Rattle.smi_write.proofs.text.push_before.Goals as goal
 

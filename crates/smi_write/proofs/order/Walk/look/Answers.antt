@@ -1,10 +1,9 @@
-use Rattle.std.proofs.Common.{length, ◌∙◌, ap, ◌≡◌, ◌<◌, ◌-◌, ◌≤◌, ℕ, List, Bool, [], subst, sym, arith}
+use Rattle.std.proofs.Common.{length, ◌∙◌, ap, ◌≡◌, ◌<◌, ◌-◌, ℕ, List, Bool, [], subst, sym, arith}
 use Rattle.std.specs.List.{list_any}
 use Rattle.std.specs.Prelude.{slice_index_or}
 use Rattle.std.proofs.lemmas.List.{get_or_default}
 use Rattle.std.proofs.lemmas.Grind.{common_steps}
 use Rattle.mc_mol.specs.declared.parts.HalfEdge.{HalfEdge}
-use Rattle.mc_mol.specs.HalfEdges.{half_edges}
 use Rattle.smi_mean.specs.Order.{graph_of, steps}
 use Rattle.smi_write.specs.declared.order.Seen.{Seen}
 use Rattle.smi_write.specs.Seen.{Sees, leads_back, mark_all, nothing, see_all}

@@ -1,11 +1,11 @@
-use Rattle.std.proofs.Common.{length, subst, ◌∷◌, [], ◌≡◌, ◌<◌, ◌∙◌, ap, Some, List, ℕ, sym, arith, true, refl}
+use Rattle.std.proofs.Common.{length, subst, ◌∷◌, [], ◌<◌, ◌∙◌, ℕ, sym, arith}
 use Rattle.std.proofs.lemmas.List.{get_or_default}
 use Rattle.std.proofs.lemmas.Option.{slice_get_within}
 use Rattle.std.proofs.lemmas.Grind.{common_steps}
-use Rattle.smi_mean.specs.Order.{graph_of, steps, behind, unwritten_neighbour}
+use Rattle.smi_mean.specs.Order.{behind}
 use Rattle.smi_write.proofs.Least.{not_is, not_false}
 use Rattle.smi_write.proofs.BondOrders.{order_of}
-use Rattle.smi_write.proofs.Advance.{goes_on, gone_on, less_left, one_less_left, stays_off, orders_on, next_above}
+use Rattle.smi_write.proofs.Advance.{goes_on, gone_on, less_left, stays_off, orders_on, next_above}
 use Rattle.smi_write.specs.Progress.{left}
 use Rattle.smi_write.proofs.Marks.{marks_above, marks_on}
 use Rattle.smi_write.proofs.order.Walk.visit.Goals as goal
