@@ -1,6 +1,7 @@
 -- One more atom is written: the lists that are kept stay those of the steps.
-use Rattle.std.proofs.Common.{◌≡◌, ℕ, suc, ◌+◌, ◌*◌, ◌-◌, ◌≤◌, ◌<◌, List, [], ◌∷◌, ◌++◌, length, get_or, slice_set, reverse, Bool, true, false, Option, Some, None, refl, ap, sym, ◌∙◌, subst, inl, inr, arith}
-use Rattle.std.specs.Prelude.{◌==◌, ◌&&◌, ◌||◌, not}
+use Rattle.std.proofs.Common.{◌≡◌, ℕ, suc, ◌+◌, ◌*◌, ◌-◌, ◌≤◌, ◌<◌, List, [], ◌∷◌, ◌++◌, length, get_or, slice_get, slice_set, reverse, Bool, true, false, Option, Some, None, refl, ap, sym, ◌∙◌, subst, inl, inr, arith}
+use Rattle.std.specs.Prelude.{◌≢◌, ◌==◌, ◌&&◌, ◌||◌, not, if◌then◌else◌}
+use Rattle.std.specs.Option.{option_to_list}
 use Rattle.std.specs.List.{All, list_any}
 use Rattle.std.proofs.lemmas.Bool.{cases_eq, false≢true}
 use Rattle.std.proofs.lemmas.List.{append-nil, length_push, length-map, map-append, get_or-set_same, get_or-set_other}
@@ -8,18 +9,24 @@ use Rattle.std.proofs.lemmas.Option.{slice_get-get_or}
 use Rattle.mc_base.specs.declared.ids.AtomId.{AtomId}
 use Rattle.mc_mol.specs.declared.parts.HalfEdge.{HalfEdge}
 use Rattle.mc_mol.specs.Molecule.{Molecule, are_joined}
+use Rattle.mc_mol.specs.WellFormed.{IsMolecule}
 use Rattle.mc_mol.specs.HalfEdges.{half_edges, AllHaveTwins}
 use Rattle.mc_mol.proofs.Lists.{length-slice_set, reverse_push}
 use Rattle.mc_mol.proofs.Halves.{are_joined-half_edges}
-use Rattle.smi_mean.specs.Order.{Graph, graph_of, Step, least, is_written, unwritten_neighbour, behind, beginning, next_step, onto, steps, order, place, parent_place, parents, atoms}
+use Rattle.smi_mean.specs.Order.{Graph, graph_of, Step, least, some_if, is_written, unwritten_neighbour, behind, beginning, next_step, onto, steps, order, place, parent_place, parents, atoms}
 use Rattle.smi_write.specs.Lesser.{lowest}
+use Rattle.smi_write.specs.declared.order.Seen.{Seen}
+use Rattle.smi_write.specs.Seen.{nothing, see_all, IsBondTo, Sees}
+use Rattle.smi_write.specs.WrittenOrder.{order_behind, parent_orders}
 use Rattle.smi_write.specs.Progress.{Stacked, HoldsSteps}
-use Rattle.smi_write.proofs.Least.{test_other, test_same, not_false}
+use Rattle.smi_write.proofs.Least.{test_other, test_same, not_false, not_true, not_is, and_true, or_false}
 use Rattle.smi_write.proofs.Walk.{Grown, grown, chosen, place_here, place_other, place_more, written_place, unwritten_place, place_unwritten}
 use Rattle.smi_write.proofs.Counting.{count_le, count_all}
 use Rattle.smi_write.proofs.Once.{count_written, length_atoms}
-use Rattle.smi_write.proofs.Stacked.{next_none, next_top, popped, stays_stacked}
+use Rattle.smi_write.proofs.Stacked.{least_none, next_none, next_top, popped, popped_below, stays_stacked}
 use Rattle.smi_write.proofs.Lowest.{lowest_is, least_cong, least_is}
+use Rattle.smi_write.proofs.Neighbours.{least_is_lowest, true_of_found, only_one}
+use Rattle.smi_write.proofs.BondOrders.{half_order}
 
 -- Neighbours
 
@@ -78,6 +85,33 @@ neighbour_is m before place_list a places twins written =
         none false true = refl
         none false false = refl
 
+-- what is seen of an atom's neighbours
+pub seen : (m : Molecule) (before : List Step) (k p : ℕ) (place_list : List ℕ) (a : AtomId) → IsMolecule m → ((u : ℕ) → u < length m.atoms → get_or place_list u 0 ≡ place before u)
+    → AllHaveTwins m a → 0 < place before a.0 → Sees m before a.0 (see_all k p place_list nothing (half_edges m a.0))
+seen m before k p place_list a is places twins written =
+    let least : some_if found.some found.least ≡ unwritten_neighbour (graph_of m) before a.0 = least_is_lowest k p place_list (half_edges m a.0) nothing ∙ neighbour_is m before place_list a places twins written in
+    record {
+      none = λ e. sym least ∙ ap (λ (b : Bool). some_if b found.least) e;
+      least = λ e. sym least ∙ ap (λ (b : Bool). some_if b found.least) e;
+      only = λ e f. least_none _ (length m.atoms) (λ w less. not_true (are_joined m.bonds a.0 w && not (found.least == w || is_written before w)) (λ h. spent f w less h));
+      bond = λ e. true_of_found (λ v b. IsBondTo m a.0 v b.0) k p place_list (half_edges m a.0) nothing bond_to (λ h. absurd (false≢true h)) e;
+    }
+  where
+    found : Seen
+    found = see_all k p place_list nothing (half_edges m a.0)
+
+    bond_to : (i : ℕ) (half : HalfEdge) → slice_get (half_edges m a.0) i ≡ Some half → IsBondTo m a.0 half.to.0 half.bond.0
+    bond_to i half at = let t = twins i half at in record { bond = t.bond; is_bond = t.is_bond; order = half_order m a i half.to.0 half t.bond is twins at refl t.is_bond }
+
+    spent : found.more ≡ false → (w : ℕ) → w < length m.atoms → (are_joined m.bonds a.0 w && not (found.least == w || is_written before w)) ≡ true → ⊥
+    spent f w less h =
+        let both = and_true (are_joined m.bonds a.0 w) (not (found.least == w || is_written before w)) h in
+        let neither = or_false (found.least == w) (is_written before w) (not_is (found.least == w || is_written before w) both.1) in
+        let free : (get_or place_list w 0 == 0) ≡ true = ap (λ (x : ℕ). x == 0) (places w less) ∙ is_free before w ∙ ap not neither.1 in
+        let ne : a.0 ≢ w = λ e. let z = unwritten_place before w neither.1 in let q : place before a.0 ≡ place before w = ap (place before) e in omega arith in
+        let same = only_one k p place_list (half_edges m a.0) nothing refl f w (are_joined-half_edges m a.0 w ne ∙ both.0) free in
+        false≢true (sym neither.0 ∙ ap (λ (x : ℕ). x == w) same ∙ test_same w)
+
 -- One more step
 
 pub length_list : (g : Graph) (before : List Step) (al : List AtomId) (pl cl st : List ℕ) → HoldsSteps g before al pl cl st → length al ≡ length before
@@ -105,6 +139,12 @@ behind_more g before s al al' pl pl' cl cl' st st' p n h below is_p is_n e f c t
 
 pub steps_next : (g : Graph) (k : ℕ) (s : Step) → next_step g (steps g k) ≡ Some s → steps g (suc k) ≡ s ∷ steps g k
 steps_next g k s e = ap (λ (o : Option Step). onto o (steps g k)) e
+
+pub longer_steps : (m : Molecule) (s : Step) (al al' : List AtomId) → al' ≡ al ++ record { 0 = s.atom } ∷ [] → next_step (graph_of m) (steps (graph_of m) (length al)) ≡ Some s
+    → steps (graph_of m) (length al') ≡ s ∷ steps (graph_of m) (length al)
+longer_steps m s al al' e next =
+    let longer : length al' ≡ suc (length al) = ap length e ∙ length_push al (record { 0 = s.atom }) ∙ (omega arith) in
+    ap (steps (graph_of m)) longer ∙ steps_next (graph_of m) (length al) s next
 
 pub walk_on : (m : Molecule) (s : Step) (al al' : List AtomId) (pl pl' cl cl' st st' : List ℕ) (p n : ℕ)
     → HoldsSteps (graph_of m) (steps (graph_of m) (length al)) al pl cl st
@@ -177,18 +217,39 @@ top_is m k al pl cl st u h =
     let w = top_written (graph_of m) (steps (graph_of m) k) (steps (graph_of m) k) u (reverse st) s in
     record { written = w; below = written_below (graph_of m) (steps (graph_of m) k) u (grown (graph_of m) k) w }
 
--- an atom that has no unwritten neighbour stays off the stack
-pub stays_off : (m : Molecule) (before : List Step) (al : List AtomId) (pl cl st : List ℕ) (u : ℕ) → HoldsSteps (graph_of m) before al pl cl (st ++ u ∷ [])
-    → unwritten_neighbour (graph_of m) before u ≡ None → HoldsSteps (graph_of m) before al pl cl (st ++ [])
-stays_off m before al pl cl st u h none =
+-- an atom that has no unwritten neighbour stays off the stack, and the one below it comes off
+pub stays_off : (m : Molecule) (before : List Step) (al : List AtomId) (pl cl st st' : List ℕ) (u : ℕ) (next : Option ℕ) → HoldsSteps (graph_of m) before al pl cl (st ++ u ∷ [])
+    → unwritten_neighbour (graph_of m) before u ≡ None → st ≡ st' ++ option_to_list next → HoldsSteps (graph_of m) before al pl cl (st' ++ option_to_list next)
+stays_off m before al pl cl st st' u next h none e =
     let s : Stacked (graph_of m) before before (u ∷ reverse st) = subst (λ (x : List ℕ). Stacked (graph_of m) before before x) (reverse_push st u) h.stacked in
     record {
       atoms_are = h.atoms_are;
       parents_are = h.parents_are;
       count = h.count;
       places_are = h.places_are;
-      stacked = subst (λ (x : List ℕ). Stacked (graph_of m) before before (reverse x)) (sym (append-nil st)) (popped (graph_of m) before before u (reverse st) s none);
+      stacked = subst (λ (x : List ℕ). Stacked (graph_of m) before before (reverse x)) e (popped (graph_of m) before before u (reverse st) s none);
     }
+
+-- an atom that keeps no unwritten neighbour goes from below the top
+goes_below : (g : Graph) (before : List Step) (al : List AtomId) (pl cl st : List ℕ) (u v : ℕ) → HoldsSteps g before al pl cl ((st ++ u ∷ []) ++ v ∷ [])
+    → unwritten_neighbour g before u ≡ None → HoldsSteps g before al pl cl (st ++ v ∷ [])
+goes_below g before al pl cl st u v h none =
+    let two : reverse ((st ++ u ∷ []) ++ v ∷ []) ≡ v ∷ u ∷ reverse st = reverse_push (st ++ u ∷ []) v ∙ ap (λ (x : List ℕ). v ∷ x) (reverse_push st u) in
+    let s : Stacked g before before (v ∷ u ∷ reverse st) = subst (λ (x : List ℕ). Stacked g before before x) two h.stacked in
+    record {
+      atoms_are = h.atoms_are;
+      parents_are = h.parents_are;
+      count = h.count;
+      places_are = h.places_are;
+      stacked = subst (λ (x : List ℕ). Stacked g before before x) (sym (reverse_push st v)) (popped_below g before before v u (reverse st) s none);
+    }
+
+-- an atom is kept below the top only if it has another unwritten neighbour
+kept_below : (g : Graph) (before : List Step) (al : List AtomId) (pl cl st st' : List ℕ) (u v : ℕ) (more : Bool) → HoldsSteps g before al pl cl ((st ++ u ∷ []) ++ v ∷ [])
+    → (more ≡ false → unwritten_neighbour g before u ≡ None) → st' ≡ st ++ (if more then u ∷ [] else []) → HoldsSteps g before al pl cl (st' ++ v ∷ [])
+kept_below g before al pl cl st st' u v true h none e = subst (λ (x : List ℕ). HoldsSteps g before al pl cl (x ++ v ∷ [])) (sym e) h
+kept_below g before al pl cl st st' u v false h none e =
+    subst (λ (x : List ℕ). HoldsSteps g before al pl cl (x ++ v ∷ [])) (sym (e ∙ append-nil st)) (goes_below g before al pl cl st u v h (none refl))
 
 -- its least unwritten neighbour is the next atom
 pub next_above : (m : Molecule) (before : List Step) (al : List AtomId) (pl cl st : List ℕ) (u v : ℕ) → HoldsSteps (graph_of m) before al pl cl (st ++ u ∷ [])
@@ -218,40 +279,63 @@ goes_on m al pl cl st u v h found =
       fewer = omega arith;
     }
 
-pub gone_on : (m : Molecule) (al al' : List AtomId) (pl pl' cl cl' st st' : List ℕ) (u v p : ℕ)
+pub gone_on : (m : Molecule) (al al' : List AtomId) (pl pl' cl cl' st st' : List ℕ) (u v p : ℕ) (more : Bool)
     → HoldsSteps (graph_of m) (steps (graph_of m) (length al)) al pl cl (st ++ u ∷ [])
-    → Some v ≡ unwritten_neighbour (graph_of m) (steps (graph_of m) (length al)) u → p ≡ get_or cl u 0
-    → al' ≡ al ++ record { 0 = v } ∷ [] → pl' ≡ pl ++ p ∷ [] → cl' ≡ slice_set cl v (length al + 1) → st' ≡ (st ++ u ∷ []) ++ v ∷ []
-    → HoldsSteps (graph_of m) (steps (graph_of m) (length al')) al' pl' cl' (st' ++ [])
-gone_on m al al' pl pl' cl cl' st st' u v p h found is_p e f c t =
-    let g = graph_of m in
+    → Some v ≡ unwritten_neighbour (graph_of m) (steps (graph_of m) (length al)) u
+    → (more ≡ false → unwritten_neighbour (graph_of m) (behind u v ∷ steps (graph_of m) (length al)) u ≡ None) → p ≡ get_or cl u 0
+    → al' ≡ al ++ record { 0 = v } ∷ [] → pl' ≡ pl ++ p ∷ [] → cl' ≡ slice_set cl v (length al + 1) → st' ≡ st ++ (if more then u ∷ [] else [])
+    → HoldsSteps (graph_of m) (steps (graph_of m) (length al')) al' pl' cl' (st' ++ v ∷ [])
+gone_on m al al' pl pl' cl cl' st st' u v p more h found only is_p e f c t =
     let next = next_above m (steps (graph_of m) (length al)) al pl cl st u v h (sym found) in
     let top = top_is m (length al) al pl cl st u h in
-    walk_on m (behind u v) al al' pl pl' cl cl' (st ++ u ∷ []) (st' ++ []) p (length al + 1) h next (is_p ∙ h.places_are u top.below) refl e f c (append-nil st' ∙ t)
+    kept_below (graph_of m) (steps (graph_of m) (length al')) al' pl' cl' st st' u v more
+    (walk_on m (behind u v) al al' pl pl' cl cl' (st ++ u ∷ []) ((st ++ u ∷ []) ++ v ∷ []) p (length al + 1) h next (is_p ∙ h.places_are u top.below) refl e f c refl)
+    (λ none. ap (λ (x : List Step). unwritten_neighbour (graph_of m) x u) (longer_steps m (behind u v) al al' e next) ∙ only none) t
 
-pub as_much_left : (n : ℕ) (al al' : List AtomId) (st st' : List ℕ) (u v : ℕ) → length al < n → al' ≡ al ++ record { 0 = v } ∷ [] → st' ≡ (st ++ u ∷ []) ++ v ∷ []
-    → 2 * (n - length al') + length st' ≡ 2 * (n - length al) + length st
-as_much_left n al al' st st' u v less e t =
+-- the orders of the bonds to the parents
+pub orders_on : (m : Molecule) (s : Step) (al al' : List AtomId) (ol ol' : List ℕ) (o : ℕ) → next_step (graph_of m) (steps (graph_of m) (length al)) ≡ Some s
+    → ol ≡ parent_orders (graph_of m) (steps (graph_of m) (length al)) → o ≡ order_behind (graph_of m) s.parent s.atom → al' ≡ al ++ record { 0 = s.atom } ∷ [] → ol' ≡ ol ++ o ∷ []
+    → ol' ≡ parent_orders (graph_of m) (steps (graph_of m) (length al'))
+orders_on m s al al' ol ol' o next is is_o e f =
+    f ∙ ap (λ (x : List ℕ). x ++ o ∷ []) is ∙ ap (λ (x : ℕ). parent_orders (graph_of m) (steps (graph_of m) (length al)) ++ x ∷ []) is_o
+    ∙ ap (parent_orders (graph_of m)) (sym (longer_steps m s al al' e next))
+
+pub less_left : (n : ℕ) (al al' : List AtomId) (st st' : List ℕ) (u v : ℕ) (more : Bool) → length al < n → al' ≡ al ++ record { 0 = v } ∷ [] → st' ≡ st ++ (if more then u ∷ [] else [])
+    → 2 * (n - length al') + length (st' ++ v ∷ []) < 2 * (n - length al) + length (st ++ u ∷ [])
+less_left n al al' st st' u v more less e t =
     let a : length al' ≡ length al + 1 = ap length e ∙ length_push al (record { 0 = v }) in
-    let b : length st' ≡ length (st ++ u ∷ []) + 1 = ap length t ∙ length_push (st ++ u ∷ []) v in
+    let b : length (st' ++ v ∷ []) ≡ length st' + 1 = length_push st' v in
     let d : length (st ++ u ∷ []) ≡ length st + 1 = length_push st u in
+    let c : length st' ≤ length st + 1 = at_most more t in
     omega arith
+  where
+    at_most : (b : Bool) → st' ≡ st ++ (if b then u ∷ [] else []) → length st' ≤ length st + 1
+    at_most true e = let l : length st' ≡ length (st ++ u ∷ []) = ap length e in let d = length_push st u in omega arith
+    at_most false e = let l : length st' ≡ length st = ap length (e ∙ append-nil st) in omega arith
+
+pub one_less_left : (n k : ℕ) (st st' : List ℕ) (u : ℕ) (next : Option ℕ) → st ≡ st' ++ option_to_list next → 2 * (n - k) + length (st' ++ option_to_list next) < 2 * (n - k) + length (st ++ u ∷ [])
+one_less_left n k st st' u next e =
+    let a : length (st' ++ option_to_list next) ≡ length st = ap length (sym e) in
+    let d : length (st ++ u ∷ []) ≡ length st + 1 = length_push st u in omega arith
 
 -- At the beginning and at the end
+
+pub root_next : (m : Molecule) (al : List AtomId) (pl cl st : List ℕ) (root : ℕ) → HoldsSteps (graph_of m) (steps (graph_of m) (length al)) al pl cl (st ++ []) → st ≡ []
+    → root < length m.atoms → get_or cl root 0 ≡ 0 → ((v : ℕ) → v < root → 0 < get_or cl v 0) → next_step (graph_of m) (steps (graph_of m) (length al)) ≡ Some (beginning root)
+root_next m al pl cl st root h empty below free earlier =
+    let before = steps (graph_of m) (length al) in
+    let none : reverse (st ++ []) ≡ [] = ap (λ (x : List ℕ). reverse (x ++ [])) empty in
+    let s : Stacked (graph_of m) before before [] = subst (λ (x : List ℕ). Stacked (graph_of m) before before x) none h.stacked in
+    next_root m before root s below (sym (h.places_are root below) ∙ free) (λ v less. subst (λ (x : ℕ). 0 < x) (h.places_are v (omega arith)) (earlier v less))
 
 pub root_written : (m : Molecule) (al al' : List AtomId) (pl pl' cl cl' st st' : List ℕ) (root : ℕ)
     → HoldsSteps (graph_of m) (steps (graph_of m) (length al)) al pl cl (st ++ []) → st ≡ [] → root < length m.atoms → get_or cl root 0 ≡ 0
     → ((v : ℕ) → v < root → 0 < get_or cl v 0)
-    → al' ≡ al ++ record { 0 = root } ∷ [] → pl' ≡ pl ++ 0 ∷ [] → cl' ≡ slice_set cl root (length al + 1) → st' ≡ st ++ root ∷ []
-    → HoldsSteps (graph_of m) (steps (graph_of m) (length al')) al' pl' cl' (st' ++ [])
+    → al' ≡ al ++ record { 0 = root } ∷ [] → pl' ≡ pl ++ 0 ∷ [] → cl' ≡ slice_set cl root (length al + 1) → st' ≡ st
+    → HoldsSteps (graph_of m) (steps (graph_of m) (length al')) al' pl' cl' (st' ++ root ∷ [])
 root_written m al al' pl pl' cl cl' st st' root h empty below free earlier e f c t =
-    let before = steps (graph_of m) (length al) in
-    let none : reverse (st ++ []) ≡ [] = ap (λ (x : List ℕ). reverse (x ++ [])) empty in
-    let s : Stacked (graph_of m) before before [] = subst (λ (x : List ℕ). Stacked (graph_of m) before before x) none h.stacked in
-    let next = next_root m before root s below (sym (h.places_are root below) ∙ free)
-    (λ v less. subst (λ (x : ℕ). 0 < x) (h.places_are v (omega arith)) (earlier v less)) in
-    walk_on m (beginning root) al al' pl pl' cl cl' (st ++ []) (st' ++ []) 0 (length al + 1) h next refl refl e f c
-    (append-nil st' ∙ t ∙ ap (λ (x : List ℕ). x ++ root ∷ []) (sym (append-nil st)))
+    walk_on m (beginning root) al al' pl pl' cl cl' (st ++ []) (st' ++ root ∷ []) 0 (length al + 1) h (root_next m al pl cl st root h empty below free earlier) refl refl e f c
+    (ap (λ (x : List ℕ). x ++ root ∷ []) (t ∙ sym (append-nil st)))
 
 pub few_written : (m : Molecule) (al : List AtomId) (pl cl st : List ℕ) → HoldsSteps (graph_of m) (steps (graph_of m) (length al)) al pl cl st → length al ≤ length m.atoms
 few_written m al pl cl st h =

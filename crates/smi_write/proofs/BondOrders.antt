@@ -13,6 +13,7 @@ use Rattle.mc_mol.specs.WellFormed.{IsMolecule}
 use Rattle.mc_mol.specs.HalfEdges.{half_edges, AllHaveTwins}
 use Rattle.mc_mol.proofs.Halves.{are_joined-half_edges}
 use Rattle.smi_mean.specs.Order.{order_between}
+use Rattle.smi_write.specs.Seen.{IsBondTo}
 use Rattle.smi_write.proofs.Least.{or_true, and_true, or_false, same_of, some_same}
 
 -- bonds that join the same two atoms join each other's ends
@@ -63,6 +64,10 @@ half_order m a place v half bond is twins at to at_bond =
     let same : t.bond ≡ bond = some_same t.bond bond (sym t.is_bond ∙ at_bond) in
     let j : joins bond a.0 v ≡ true = subst (λ (x : Bond). joins x a.0 v ≡ true) same (subst (λ (x : ℕ). joins t.bond a.0 x ≡ true) to t.joined) in
     sym (order_found m.bonds half.bond.0 bond a.0 v is.once at_bond j)
+
+-- the bond of a number has the order of the bond that it is
+pub order_of : (m : Molecule) (u v n : ℕ) (b : Bond) → IsBondTo m u v n → slice_get m.bonds n ≡ Some b → b.order ≡ order_between m.bonds u v
+order_of m u v n b h at = ap (λ (x : Bond). x.order) (some_same b h.bond (sym at ∙ h.is_bond)) ∙ h.order
 
 pub no_half_order : (m : Molecule) (u v : ℕ) → u ≢ v → false ≡ list_any (λ (half : HalfEdge). half.to.0 == v) (half_edges m u) → 1 ≡ order_between m.bonds u v
 no_half_order m u v ne none = sym (order_none m.bonds u v (sym (are_joined-half_edges m u v ne) ∙ sym none))

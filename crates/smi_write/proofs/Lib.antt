@@ -39,11 +39,13 @@ mod SomeAtoms
 mod Rows
 mod Stacked
 mod Lowest
+mod Neighbours
 mod Advance
 mod BondOrders
 mod OpenNumbers
 mod Partners
 mod OpenedRings
+mod Marks
 mod LaterChildren
 mod Befores
 mod TextSteps

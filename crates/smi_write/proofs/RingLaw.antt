@@ -1,12 +1,11 @@
 -- A ring number turns what is open under it: an equal number opens where none is open, and closes the one that is.
-use Rattle.std.proofs.Common.{◌≡◌, ◌∙◌, ℕ, ◌-◌, List, [], ◌∷◌, Bool, true, false, Option, Some, None, refl, ap}
-use Rattle.std.specs.Prelude.{◌==◌, not, if◌then◌else◌}
+use Rattle.std.proofs.Common.{◌≡◌, ◌∙◌, ℕ, ◌-◌, List, [], ◌∷◌, Option, Some, None, refl, ap}
 use Rattle.mc_mol.specs.declared.parts.Bond as bond
 use Rattle.smi_lex.specs.declared.token.BondMark.{BondMark}
 use Rattle.smi_graph.specs.declared.ring_end.RingEnd.{RingEnd}
 use Rattle.smi_graph.specs.declared.role.Role.{Role}
-use Rattle.smi_graph.specs.declared.role.Role.TheVariants.{Atom, Bond, Ring, Enter, Leave, Dot}
-use Rattle.smi_graph.specs.Bonds.{atom_count, mark_of, order_of, or_else, ring_count, is_even, ring_end, latest_end, open_end, bond_between, ring_bond, bonds_at}
+use Rattle.smi_graph.specs.declared.role.Role.TheVariants.{Ring}
+use Rattle.smi_graph.specs.Bonds.{atom_count, mark_of, order_of, or_else, ring_end, open_end, bond_between, ring_bond, bonds_at}
 use Rattle.smi_graph.specs.Reading.{turned as ends_turned}
 use Rattle.smi_graph.proofs.RingEnds.{open_end_same, open_end_other}
 

@@ -48,3 +48,12 @@ pub stays_stacked : (g : Graph) (written others : List Step) (s : Step) (stack :
 stays_stacked g written [] s stack h = h
 stays_stacked g written (t ∷ others) s stack (inl h) = inl (spent_stays g written s t.atom h.0, stays_stacked g written others s stack h.1)
 stays_stacked g written (t ∷ others) s stack (inr (us, e, h)) = inr (us, e, stays_stacked g written others s us h)
+
+-- an atom below the top that has no unwritten neighbour may go
+pub popped_below : (g : Graph) (written others : List Step) (v u : ℕ) (us : List ℕ) → Stacked g written others (v ∷ u ∷ us) → unwritten_neighbour g written u ≡ None
+    → Stacked g written others (v ∷ us)
+popped_below g written [] v u us h none = cc
+popped_below g written (s ∷ others) v u us (inl h) none = inl (h.0, popped_below g written others v u us h.1 none)
+popped_below g written (s ∷ others) v u us (inr (vs, e, h)) none =
+    let same = same_head v s.atom (u ∷ us) vs e in
+    inr (us, ap (λ (x : ℕ). x ∷ us) same.0, popped g written others u us (subst (λ (x : List ℕ). Stacked g written others x) (sym same.1) h) none)

@@ -1,5 +1,6 @@
 pub mod Nested
 pub mod Lesser
+pub mod Seen
 pub mod OpenRings
 pub mod Opening
 pub mod Progress

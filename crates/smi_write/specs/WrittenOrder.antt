@@ -1,18 +1,32 @@
 -- The written order as the writer keeps it.
-use Rattle.std.specs.Prelude.{◌≡◌, ℕ, ◌+◌, ◌-◌, ◌<◌, ◌≤◌, Bool, ◌&&◌, not, ◌==◌, nat_lt, List, length, map, take, drop, get_or}
+use Rattle.std.specs.Prelude.{◌≡◌, ℕ, ◌+◌, ◌-◌, ◌<◌, ◌≤◌, Bool, true, false, ◌&&◌, not, ◌==◌, nat_lt, List, [], ◌∷◌, ◌++◌, Option, Some, None, length, map, take, drop, get_or}
 use Rattle.mc_mol.specs.declared.parts.HalfEdge.{HalfEdge}
 use Rattle.mc_mol.specs.Molecule.{Molecule}
-use Rattle.smi_mean.specs.Order.{graph_of, order, place, parents, atoms}
+use Rattle.smi_mean.specs.Order.{Graph, graph_of, Step, order, place, parents, atoms}
 use Rattle.smi_mean.specs.RingNumbers.{has}
+use Rattle.smi_mean.specs.Written.{has_ring}
 use Rattle.smi_write.specs.declared.order.WrittenAtoms.{WrittenAtoms}
 
--- the atoms and their parents by place, and the place of each atom
+-- the order of the bond to a parent, and 1 where there is none
+abbrev pub order_behind : Graph → Option ℕ → ℕ → ℕ
+order_behind g None v = 1
+order_behind g (Some u) v = g.order u v
+
+-- the orders of the bonds to the parents of the written atoms, in the order in which they are written
+abbrev pub parent_orders : Graph → List Step → List ℕ
+parent_orders g [] = []
+parent_orders g (s ∷ before) = parent_orders g before ++ order_behind g s.parent s.atom ∷ []
+
+-- the atoms, their parents and the bonds to these by place, the place of each atom, and which atoms open ring numbers
 pub record IsWrittenOrder (m : Molecule) (w : WrittenAtoms) : Type 0 where
   pub atoms_are : w.atoms.items ≡ map (λ u. record { 0 = u }) (atoms (order (graph_of m)))
   pub parents_are : w.parents.items ≡ parents (order (graph_of m))
+  pub orders_are : w.orders.items ≡ parent_orders (graph_of m) (order (graph_of m))
   pub places_are : (u : ℕ) → u < length m.atoms → get_or w.places.items u 0 ≡ place (order (graph_of m)) u
   pub place_count : length w.places.items ≡ length m.atoms
   pub count : length w.atoms.items ≡ length m.atoms
+  pub open_count : length w.opens.items ≡ length m.atoms
+  pub opens_are : (j l : ℕ) → j < l → l < length m.atoms → has_ring (graph_of m) j l ≡ true → get_or w.opens.items j false ≡ true
 
 -- the place, from 0, to which a half-edge leads
 abbrev pub place_behind : List ℕ → HalfEdge → ℕ

@@ -1,6 +1,7 @@
 //! The bytes of atoms, ring numbers and bond symbols.
 
 ghost use Rattle.std.specs.Prelude.{◌≡◌, ◌++◌, ◌<◌, OnOk, flat_map, decimal, false, None};
+ghost use Rattle.mc_elements.specs.Elements.{symbol};
 ghost use Rattle.mc_elements.specs.Valences.{smiles_valences, implied};
 ghost use Rattle.smi_lex.specs.declared.token.TokenKind.TheVariants.{Bracket};
 ghost use Rattle.smi_lex.specs.Grammar.{may_be_bare};
@@ -11,11 +12,25 @@ use mc_base::{NoMemory, Text};
 use mc_elements::{Element, implied, smiles_valences};
 use mc_mol::Atom;
 
+/// A number; most have one digit.
 fn push_number(text: &mut Text, n: u64) -> Result<(), NoMemory>
     ensures { OnOk result (text.new ≡ text.old ++ decimal n) }
 {
+    if n < 10 {
+        return text.push(b'0' + n as u8);
+    }
     let mut buffer = Buffer::new();
     text.extend(buffer.format(n).as_bytes())
+}
+
+/// The symbol of an element; most that are written have one letter.
+fn push_element(text: &mut Text, element: Element) -> Result<(), NoMemory>
+    ensures { OnOk result (text.new ≡ text.old ++ symbol element) }
+{
+    match element.symbol() {
+        [letter] => text.push(*letter),
+        letters => text.extend(letters),
+    }
 }
 
 fn push_isotope(text: &mut Text, isotope: u16) -> Result<(), NoMemory>
@@ -33,7 +48,7 @@ fn push_hydrogens(text: &mut Text, hydrogens: u8) -> Result<(), NoMemory>
     if hydrogens == 0 {
         return Ok(());
     }
-    text.extend(b"H")?;
+    text.push(b'H')?;
     if hydrogens != 1 {
         push_number(text, hydrogens as u64)?;
     }
@@ -47,7 +62,7 @@ fn push_charge(text: &mut Text, charge: i8) -> Result<(), NoMemory>
     if charge == 0 {
         return Ok(());
     }
-    text.extend(if charge > 0 { b"+" } else { b"-" })?;
+    text.push(if charge > 0 { b'+' } else { b'-' })?;
     let amount = charge.unsigned_abs();
     if amount != 1 {
         push_number(text, amount as u64)?;
@@ -61,20 +76,20 @@ fn push_class(text: &mut Text, class: u16) -> Result<(), NoMemory>
     if class == 0 {
         return Ok(());
     }
-    text.extend(b":")?;
+    text.push(b':')?;
     push_number(text, class as u64)
 }
 
 fn push_bracket(text: &mut Text, atom: Atom) -> Result<(), NoMemory>
     ensures { OnOk result (text.new ≡ text.old ++ spelling (Bracket atom.element false atom.isotope None atom.hydrogens atom.charge atom.class)) }
 {
-    text.extend(b"[")?;
+    text.push(b'[')?;
     push_isotope(text, atom.isotope)?;
-    text.extend(atom.element.symbol())?;
+    push_element(text, atom.element)?;
     push_hydrogens(text, atom.hydrogens)?;
     push_charge(text, atom.charge)?;
     push_class(text, atom.class)?;
-    text.extend(b"]")?;
+    text.push(b']')?;
     Ok(())
 }
 
@@ -122,7 +137,7 @@ pub fn push_atom(text: &mut Text, atom: Atom, sum: u32) -> Result<(), NoMemory>
     ensures { OnOk result (text.new ≡ text.old ++ spelling (token_of atom sum)) }
 {
     if is_bare(atom, sum) {
-        text.extend(atom.element.symbol())
+        push_element(text, atom.element)
     } else {
         push_bracket(text, atom)
     }
@@ -133,7 +148,7 @@ pub fn push_ring_number(text: &mut Text, number: usize) -> Result<(), NoMemory>
     ensures { OnOk result (text.new ≡ text.old ++ ring_text number) }
 {
     if number >= 10 {
-        text.extend(b"%")?;
+        text.push(b'%')?;
     }
     push_number(text, number as u64)
 }
@@ -143,9 +158,9 @@ pub fn push_symbol(text: &mut Text, order: u8) -> Result<(), NoMemory>
     ensures { OnOk result (text.new ≡ text.old ++ flat_map spelling (mark_tokens (symbol_of order))) }
 {
     match order {
-        2 => text.extend(b"="),
-        3 => text.extend(b"#"),
-        4 => text.extend(b"$"),
+        2 => text.push(b'='),
+        3 => text.push(b'#'),
+        4 => text.push(b'$'),
         _ => Ok(()),
     }
 }

@@ -1,14 +1,16 @@
 //! The order in which the atoms of a molecule are written: a walk with a stack, which goes on behind the
 //! latest atom that has an unwritten neighbour.
 
-ghost use Rattle.std.specs.Prelude.{◌≡◌, ◌++◌, [], ◌∷◌, ◌+◌, ◌-◌, ◌^◌, ◌<◌, ◌≤◌, ℕ, All, OnOk, IfOk, length, slice_set, slice_index_or, None, ◌==◌};
+ghost use Rattle.std.specs.List.{list_any};
+ghost use Rattle.std.specs.Prelude.{◌≡◌, ◌++◌, [], ◌∷◌, ◌+◌, ◌-◌, ◌^◌, ◌<◌, ◌≤◌, ℕ, All, OnOk, IfOk, length, slice_set, slice_index_or, None, option_to_list, if◌then◌else◌};
 ghost use Rattle.mc_mol.specs.WellFormed.{IsMolecule};
-ghost use Rattle.smi_mean.specs.Order.{graph_of, order, steps, atoms, parents, place, unwritten_neighbour};
-ghost use Rattle.smi_write.specs.Progress.{IsWalkWith, left};
+ghost use Rattle.smi_mean.specs.Order.{graph_of, steps};
+ghost use Rattle.smi_write.specs.Progress.{HoldsMarks, IsWalkWith, left};
 ghost use Rattle.smi_write.specs.WrittenOrder.{IsWrittenOrder};
-ghost use Rattle.smi_write.specs.Lesser.{lesser, lowest};
+ghost use Rattle.smi_write.specs.Lesser.{lesser};
+ghost use Rattle.smi_write.specs.Seen.{Sees, leads_back, mark_all, nothing, see, see_all};
 
-use mc_base::{AtomId, NoMemory};
+use mc_base::{AtomId, BondId, NoMemory};
 use mc_mol::{HalfEdge, Mol};
 use std::alloc::Global;
 
@@ -19,66 +21,187 @@ struct Walk {
     atoms: Vec<AtomId>,
     /// by place, the place of the atom's parent, from 1, or 0
     parents: Vec<u32>,
+    /// by place, the order of the bond to the atom's parent
+    orders: Vec<u8>,
     /// the place of each atom, from 1, or 0 where it isn't written
     places: Vec<u32>,
+    /// by place, whether a ring bond leads to a later atom
+    opens: Vec<bool>,
     /// the written atoms that may have unwritten neighbours, the latest last
     stack: Vec<u32>,
 }
 
 impl Walk {
     /// Writes an atom behind the others.
-    fn write(&mut self, atom: u32, parent: u32) -> Result<(), NoMemory>
+    fn write(&mut self, atom: u32, parent: u32, order: u8) -> Result<(), NoMemory>
         requires within { atom < length self.old.places.items }
         requires few { length self.old.atoms.items < 2 ^ 32 - 1 }
         ensures atoms { OnOk result (self.new.atoms.items ≡ self.old.atoms.items ++ record { 0 = atom } ∷ []) }
         ensures parents { OnOk result (self.new.parents.items ≡ self.old.parents.items ++ parent ∷ []) }
+        ensures orders { OnOk result (self.new.orders.items ≡ self.old.orders.items ++ order ∷ []) }
         ensures places { OnOk result (self.new.places.items ≡ slice_set self.old.places.items atom (length self.old.atoms.items + 1)) }
-        ensures stack { OnOk result (self.new.stack.items ≡ self.old.stack.items ++ atom ∷ []) }
+        ensures opens { OnOk result (self.new.opens.items ≡ self.old.opens.items) }
+        ensures stack { OnOk result (self.new.stack.items ≡ self.old.stack.items) }
     {
         self.places[atom as usize] = self.atoms.len() as u32 + 1;
         self.atoms.push(AtomId(atom))?;
         self.parents.push(parent)?;
-        self.stack.push(atom)?;
+        self.orders.push(order)?;
         Ok(())
     }
 
-    /// The least unwritten neighbour of an atom that is just taken off the stack.
-    fn neighbour(&self, mol: &Mol, atom: u32) -> Option<u32>
-        requires { IsWalkWith mol.now self.now (atom ∷ []) }
-        ensures { result ≡ unwritten_neighbour (graph_of mol.now) (steps (graph_of mol.now) (length self.now.atoms.items)) atom }
+    /// What is seen of the neighbours of the latest atom, or of the latest one of the stack.
+    fn look(&mut self, mol: &Mol, atom: u32) -> Seen
+        requires molecule { IsMolecule mol.now }
+        requires walk { IsWalkWith mol.now self.old (atom ∷ []) }
+        ensures walk { IsWalkWith mol.now self.new (atom ∷ []) }
+        ensures seen { Sees mol.now (steps (graph_of mol.now) (length self.new.atoms.items)) atom result }
+        ensures marks { HoldsMarks mol.now self.new.parents.items self.new.places.items [] self.new.opens.items }
+        ensures left { left mol.now self.new (atom ∷ []) ≡ left mol.now self.old (atom ∷ []) }
+        ensures kept { self.new.places ≡ self.old.places }
     {
-        least_unwritten(mol.bonds_of(AtomId(atom)), &self.places)
+        let halves = mol.bonds_of(AtomId(atom));
+        let place = self.places[atom as usize];
+        let parent = self.parents[place as usize - 1];
+        let found = neighbours_seen(halves, &self.places, place, parent);
+        mark_if(
+            found.back,
+            &mut self.opens,
+            halves,
+            &self.places,
+            place,
+            parent,
+        );
+        found
     }
 
-    /// Goes on behind an atom that is just taken off the stack: to its least unwritten neighbour, and else
-    /// it stays off.
-    fn visit(&mut self, mol: &Mol, atom: u32) -> Result<(), NoMemory>
+    /// Goes on behind an atom: to its least unwritten neighbour, and where it has none to the latest atom of
+    /// the stack. The atom stays on the stack only where it has another unwritten neighbour.
+    fn visit(&mut self, mol: &Mol, atom: u32) -> Result<Option<u32>, NoMemory>
+        requires molecule { IsMolecule mol.now }
         requires walk { IsWalkWith mol.now self.old (atom ∷ []) }
-        requires few { length mol.now.atoms ≤ 999 }
-        ensures walk { OnOk result (IsWalkWith mol.now self.new []) }
-        ensures left { OnOk result (left mol.now self.new ≡ left mol.now self.old) }
+        ensures walk { IfOk result (λ next. IsWalkWith mol.now self.new (option_to_list next)) }
+        ensures empty { IfOk result (λ next. next ≡ None → self.new.stack.items ≡ []) }
+        ensures left { IfOk result (λ next. left mol.now self.new (option_to_list next) < left mol.now self.old (atom ∷ [])) }
         ensures kept { OnOk result ((v : ℕ) → 0 < slice_index_or self.old.places.items v 0 → 0 < slice_index_or self.new.places.items v 0) }
     {
-        if let Some(next) = self.neighbour(mol, atom) {
-            let parent = self.places[atom as usize];
-            self.stack.push(atom)?;
-            self.write(next, parent)?;
+        let found = self.look(mol, atom);
+        if !found.some {
+            return Ok(self.stack.pop());
         }
-        Ok(())
+        let parent = self.places[atom as usize];
+        push_if(&mut self.stack, found.more, atom)?;
+        self.write(found.least, parent, mol.bond(found.bond).order)?;
+        Ok(Some(found.least))
     }
 
-    /// Writes all atoms that are reached from those on the stack.
-    fn finish(&mut self, mol: &Mol) -> Result<(), NoMemory>
-        requires walk { IsWalkWith mol.now self.old [] }
-        requires few { length mol.now.atoms ≤ 999 }
+    /// Writes all atoms that are reached from a root.
+    fn finish(&mut self, mol: &Mol, root: u32) -> Result<(), NoMemory>
+        requires molecule { IsMolecule mol.now }
+        requires walk { IsWalkWith mol.now self.old (root ∷ []) }
         ensures walk { OnOk result (IsWalkWith mol.now self.new []) }
         ensures empty { OnOk result (self.new.stack.items ≡ []) }
         ensures kept { OnOk result ((v : ℕ) → 0 < slice_index_or self.old.places.items v 0 → 0 < slice_index_or self.new.places.items v 0) }
     {
-        while let Some(atom) = self.stack.pop() {
-            self.visit(mol, atom)?;
+        let mut next = Some(root);
+        while let Some(atom) = next {
+            next = self.visit(mol, atom)?;
         }
         Ok(())
+    }
+}
+
+/// Puts an atom onto a stack where more is to be written behind it.
+fn push_if(stack: &mut Vec<u32>, more: bool, atom: u32) -> Result<(), NoMemory>
+    ensures { OnOk result (stack.new.items ≡ stack.old.items ++ (if more then atom ∷ [] else [])) }
+{
+    if more {
+        stack.push(atom)?;
+    }
+    Ok(())
+}
+
+/// What is seen of the neighbours of an atom.
+#[derive(Clone, Copy)]
+struct Seen {
+    /// whether there is an unwritten one
+    some: bool,
+    /// whether there is another
+    more: bool,
+    /// whether a ring bond leads back to a written one
+    back: bool,
+    /// the least unwritten one
+    least: u32,
+    /// the bond to it
+    bond: BondId,
+}
+
+impl Seen {
+    /// One half-edge more, which leads to an unwritten atom or not, and back by a ring bond or not. There is no
+    /// jump that the processor could guess wrong.
+    fn see(self, half: HalfEdge, free: bool, back: bool) -> Seen
+        ensures { result ≡ see self half free back }
+    {
+        let lower = free & (!self.some | (half.to.0 < self.least));
+        Seen {
+            some: self.some | free,
+            more: self.more | (self.some & free),
+            back: self.back | back,
+            least: if lower { half.to.0 } else { self.least },
+            bond: if lower { half.bond } else { self.bond },
+        }
+    }
+}
+
+/// Whether a ring bond leads from the atom at a place, which has this parent, back to the atom at another
+/// one. All are places from 1, and 0 is none.
+fn leads_back(place: u32, parent: u32, at: u32) -> bool
+    ensures { result ≡ leads_back place parent at }
+{
+    (at > 0) & (at < place) & (at != parent)
+}
+
+/// The neighbours to which these half-edges of the atom at a place lead.
+fn neighbours_seen(halves: &[HalfEdge], places: &[u32], place: u32, parent: u32) -> Seen
+    requires { All (λ half. half.to.0 < length places.now) halves.now }
+    ensures { result ≡ see_all place parent places.now nothing halves.now }
+{
+    let mut found = Seen {
+        some: false,
+        more: false,
+        back: false,
+        least: 0,
+        bond: BondId(0),
+    };
+    for half in halves {
+        let at = places[half.to.0 as usize];
+        found = found.see(*half, at == 0, leads_back(place, parent, at));
+    }
+    found
+}
+
+/// Marks the atoms to which ring bonds lead back from the atom at a place, if there are any.
+fn mark_if(
+    back: bool,
+    opens: &mut Vec<bool>,
+    halves: &[HalfEdge],
+    places: &[u32],
+    place: u32,
+    parent: u32,
+)
+    requires back { back ≡ list_any (λ half. leads_back place parent (slice_index_or places.now half.to.0 0)) halves.now }
+    requires within { All (λ half. half.to.0 < length places.now) halves.now }
+    requires low { place ≤ length opens.old.items }
+    ensures { opens.new.items ≡ mark_all place parent places.now opens.old.items halves.now }
+{
+    if !back {
+        return;
+    }
+    for half in halves {
+        let at = places[half.to.0 as usize];
+        if leads_back(place, parent, at) {
+            opens[at as usize - 1] = true;
+        }
     }
 }
 
@@ -92,20 +215,6 @@ pub fn lesser(best: Option<u32>, n: u32) -> Option<u32>
     }
 }
 
-/// The least unwritten atom to which one of these half-edges leads.
-fn least_unwritten(halves: &[HalfEdge], places: &[u32]) -> Option<u32>
-    requires { All (λ half. half.to.0 < length places.now) halves.now }
-    ensures { result ≡ lowest (λ half. slice_index_or places.now half.to.0 0 == 0) (λ half. half.to.0) None halves.now }
-{
-    let mut best = None;
-    for half in halves {
-        if places[half.to.0 as usize] == 0 {
-            best = lesser(best, half.to.0);
-        }
-    }
-    best
-}
-
 /// The atoms in the order in which they are written.
 #[derive(Drop)]
 pub struct WrittenAtoms {
@@ -113,8 +222,12 @@ pub struct WrittenAtoms {
     pub atoms: Vec<AtomId>,
     /// by place, the place of the atom's parent, from 1, or 0 where it has none
     pub parents: Vec<u32>,
+    /// by place, the order of the bond to the atom's parent
+    pub orders: Vec<u8>,
     /// the place of each atom, from 1
     pub places: Vec<u32>,
+    /// by place, whether a ring bond leads to a later atom
+    pub opens: Vec<bool>,
 }
 
 /// The order in which the atoms of a molecule are written.
@@ -126,18 +239,22 @@ pub fn order(alloc: Global, mol: &Mol) -> Result<WrittenAtoms, NoMemory>
     let mut walk = Walk {
         atoms: Vec::with_capacity(alloc, count as usize)?,
         parents: Vec::with_capacity(alloc, count as usize)?,
+        orders: Vec::with_capacity(alloc, count as usize)?,
         places: vec![in alloc; 0; count as usize]?,
+        opens: vec![in alloc; false; count as usize]?,
         stack: Vec::with_capacity(alloc, count as usize)?,
     };
     for root in 0..count {
         if walk.places[root as usize] == 0 {
-            walk.write(root, 0)?;
-            walk.finish(mol)?;
+            walk.write(root, 0, 1)?;
+            walk.finish(mol, root)?;
         }
     }
     Ok(WrittenAtoms {
         atoms: walk.atoms,
         parents: walk.parents,
+        orders: walk.orders,
         places: walk.places,
+        opens: walk.opens,
     })
 }

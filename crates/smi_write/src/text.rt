@@ -10,7 +10,6 @@ ghost use Rattle.smi_mean.specs.Written.{at, bond_order, before_atom, atom_token
 ghost use Rattle.smi_write.specs.WrittenOrder.{IsWrittenOrder, LastChildren};
 
 use crate::atom_text::{push_atom, push_symbol};
-use crate::bonds::order_between;
 use crate::order::WrittenAtoms;
 use crate::ring_numbers::push_rings;
 use mc_base::{NoMemory, Text};
@@ -69,13 +68,12 @@ fn push_before(
         return push_unless(text, place == 0, b'.');
     }
     let later = last[parent as usize] > place;
-    let order = order_between(
-        mol,
-        written.atoms[parent as usize - 1],
-        written.atoms[place as usize],
-    );
-    push_bond(text, parent == place, later, order)?;
-    Ok(())
+    push_bond(
+        text,
+        parent == place,
+        later,
+        written.orders[place as usize],
+    )
 }
 
 /// An atom with what stands before it.
@@ -103,6 +101,11 @@ fn push_place(
     Ok(())
 }
 
+/// Room for the texts of most molecules with so many atoms. A longer text takes more as it grows.
+fn usual_length(mol: &Mol) -> usize {
+    4 * mol.atom_count() as usize + 16
+}
+
 /// The text of a molecule in its written order.
 pub fn text_of(alloc: Global, mol: &Mol, written: &WrittenAtoms) -> Result<Text, NoMemory>
     requires written { IsWrittenOrder mol.now written.now }
@@ -113,7 +116,7 @@ pub fn text_of(alloc: Global, mol: &Mol, written: &WrittenAtoms) -> Result<Text,
     let last = last_children(alloc, &written.parents)?;
     let mut rings = Vec::new(alloc);
     let mut closing = Vec::new(alloc);
-    let mut text = Text::new(alloc);
+    let mut text = Text::from_vec(Vec::with_capacity(alloc, usual_length(mol))?);
     for place in 0..mol.atom_count() {
         push_place(&mut text, mol, written, &sums, &last, place)?;
         push_rings(&mut text, mol, written, &mut rings, &mut closing, place)?;
