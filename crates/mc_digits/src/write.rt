@@ -8,6 +8,7 @@ use mc_base::{NoMemory, Text};
 
 /// Adds the digits of a number; where memory runs out nothing is added. Numbers of one and of two digits, which
 /// are most of those that are written, are made in place.
+#[inline]
 #[tactic(auto, using(crate::proofs::Decimals::one_digit, crate::proofs::Decimals::two_digits))]
 pub fn put_number(out: &mut Text, n: u64) -> Result<(), NoMemory>
     ensures ok { OnOk result (out.new ≡ out.old ++ decimal n) }
@@ -20,6 +21,15 @@ pub fn put_number(out: &mut Text, n: u64) -> Result<(), NoMemory>
         let digits = [b'0' + (n / 10) as u8, b'0' + (n % 10) as u8];
         return out.extend(&digits);
     }
+    put_long(out, n)
+}
+
+/// The same of any number. It stays out of line, so that `put_number` is short where it is called.
+#[inline(never)]
+fn put_long(out: &mut Text, n: u64) -> Result<(), NoMemory>
+    ensures ok { OnOk result (out.new ≡ out.old ++ decimal n) }
+    ensures err { OnErr result (out.new ≡ out.old) }
+{
     let mut buffer = Buffer::new();
     out.extend(buffer.format(n).as_bytes())
 }

@@ -25,12 +25,14 @@ fn put_line(out: &mut Text, line: Text) -> Result<(), NoMemory>
     out.extend(line.as_slice())
 }
 
+#[inline]
 fn push_atom(text: &mut Text, atom: AtomId) -> Result<(), NoMemory>
     ensures { OnOk result (text.new ≡ text.old ++ decimal (atom.0 + 1)) }
 {
     put_number(text, atom.0 as u64 + 1)
 }
 
+#[inline]
 fn push_later(text: &mut Text, atom: AtomId) -> Result<(), NoMemory>
     ensures { OnOk result (text.new ≡ text.old ++ codes "," ++ decimal (atom.0 + 1)) }
 {
