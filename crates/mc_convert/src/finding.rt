@@ -3,8 +3,8 @@ ghost use Rattle.mc_convert.specs.Findings.{is_true, difference_text, finding_te
 
 use crate::record_read::RecordRead;
 use crate::records::NextLine;
-use itoa::Buffer;
 use mc_base::{AtomId, NoMemory, Refusal, Text, Verdict};
+use mc_digits::put_number;
 use mc_report::{ReportLine, read_line};
 use mc_same::check_map;
 use std::alloc::Global;
@@ -28,6 +28,9 @@ pub enum Finding {
     Refusal,
 }
 
+/// Room for a verdict line: two numbers of at most 20 and 10 digits, and the words between them.
+const LINE_ROOM: usize = 64;
+
 impl Finding {
     /// Whether the record is carried over as the report says.
     pub fn is_true(self) -> bool
@@ -44,8 +47,8 @@ impl Finding {
     pub fn line(self, alloc: Global, k: u64) -> Result<Text, NoMemory>
         ensures { IfOk result (λ text. text ≡ verdict_line k self) }
     {
-        let mut text = Text::new(alloc);
-        push_number(&mut text, k)?;
+        let mut text = Text::from_vec(Vec::with_capacity(alloc, LINE_ROOM)?);
+        put_number(&mut text, k)?;
         text.push(b' ')?;
         push_finding(&mut text, self)?;
         text.push(b'\n')?;
@@ -53,19 +56,12 @@ impl Finding {
     }
 }
 
-fn push_number(text: &mut Text, number: u64) -> Result<(), NoMemory>
-    ensures { OnOk result (text.new ≡ text.old ++ decimal number) }
-{
-    let mut buffer = Buffer::new();
-    text.extend(buffer.format(number).as_bytes())
-}
-
 /// Words, and a number behind them.
 fn push_numbered(text: &mut Text, words: &[u8], number: u32) -> Result<(), NoMemory>
     ensures { OnOk result (text.new ≡ text.old ++ (words.now ++ decimal number)) }
 {
     text.extend(words)?;
-    push_number(text, number as u64)
+    put_number(text, number as u64)
 }
 
 fn push_difference(text: &mut Text, verdict: Verdict) -> Result<(), NoMemory>

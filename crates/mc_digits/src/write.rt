@@ -1,10 +1,38 @@
-ghost use Rattle.std.specs.Prelude.{◌≡◌, ◌++◌, ◌+◌, ◌<◌, ◌≤◌, ◌^◌, codes, length, take, replicate, unsigned_abs, ℕ, ℤ, OnOk, OnErr};
+ghost use Rattle.std.specs.Prelude.{◌≡◌, ◌++◌, ◌+◌, ◌<◌, ◌≤◌, ◌^◌, codes, decimal, length, take, replicate, unsigned_abs, ℕ, ℤ, OnOk, OnErr};
 ghost use Rattle.mc_digits.specs.Fronts.{count_of, fixed_of};
 ghost use Rattle.std.specs.Fmt.{signed_decimal};
 ghost use Rattle.mc_digits.specs.Written.{right_aligned, four_digits, sign_text, fixed_text};
 
 use itoa::Buffer;
 use mc_base::{NoMemory, Text};
+
+/// Adds the digits of a number; where memory runs out nothing is added. Numbers of one and of two digits, which
+/// are most of those that are written, are made in place.
+#[inline]
+#[tactic(auto, using(crate::proofs::Decimals::one_digit, crate::proofs::Decimals::two_digits))]
+pub fn put_number(out: &mut Text, n: u64) -> Result<(), NoMemory>
+    ensures ok { OnOk result (out.new ≡ out.old ++ decimal n) }
+    ensures err { OnErr result (out.new ≡ out.old) }
+{
+    if n < 10 {
+        return out.push(b'0' + n as u8);
+    }
+    if n < 100 {
+        let digits = [b'0' + (n / 10) as u8, b'0' + (n % 10) as u8];
+        return out.extend(&digits);
+    }
+    put_long(out, n)
+}
+
+/// The same of any number. It stays out of line, so that `put_number` is short where it is called.
+#[inline(never)]
+fn put_long(out: &mut Text, n: u64) -> Result<(), NoMemory>
+    ensures ok { OnOk result (out.new ≡ out.old ++ decimal n) }
+    ensures err { OnErr result (out.new ≡ out.old) }
+{
+    let mut buffer = Buffer::new();
+    out.extend(buffer.format(n).as_bytes())
+}
 
 /// Adds so many spaces, or some of them.
 #[tactic(auto, using(crate::proofs::Spaces::one_more, crate::proofs::Spaces::front_stays))]
@@ -129,6 +157,19 @@ pub fn read_back_law()
 mod tests {
     use super::*;
     use std::test::Fail;
+
+    #[test]
+    fn numbers(rt: HostRuntime) -> Result<(), Fail> {
+        let mut out = Text::new(rt.alloc());
+        put_number(&mut out, 0)?;
+        put_number(&mut out, 9)?;
+        put_number(&mut out, 10)?;
+        put_number(&mut out, 99)?;
+        put_number(&mut out, 100)?;
+        put_number(&mut out, u64::MAX)?;
+        assert_eq!(rt; out.as_slice(), b"09109910018446744073709551615".as_slice());
+        Ok(())
+    }
 
     #[test]
     fn counts(rt: HostRuntime) -> Result<(), Fail> {

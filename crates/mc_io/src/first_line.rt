@@ -2,6 +2,8 @@ ghost use Rattle.std.specs.Prelude.{◌≡◌, ◌<◌, ◌≤◌, ◌∷◌, le
 ghost use Rattle.mc_io.specs.Lines.{IsLineText, most_bytes, text_of, lines_of};
 ghost use Rattle.mc_io.specs.Fronts.{piece_len, shown};
 
+use memchr::memchr;
+
 /// The most bytes of a line, its carriage returns counted and its line feed not.
 const MAX_LINE: usize = 1_048_576;
 
@@ -47,12 +49,10 @@ fn piece_len(bytes: &[u8]) -> usize
     ensures value { result ≡ piece_len bytes.now }
     ensures within { result ≤ length bytes.now }
 {
-    for (i, byte) in bytes.iter().enumerate() {
-        if *byte == b'\n' {
-            return i;
-        }
+    match memchr(b'\n', bytes) {
+        Some(end) => end,
+        None => bytes.len(),
     }
-    bytes.len()
 }
 
 /// How many bytes stand before the carriage returns at the end.

@@ -1,6 +1,6 @@
 -- A line spells one thing.
 use Rattle.std.proofs.Common.{◌≡◌, ◌∙◌, ◌++◌, ℕ, List, refl, ap, sym, subst, inl, inr}
-use Rattle.std.specs.Prelude.{◌⊎◌, Option, Some, None, decimal, codes}
+use Rattle.std.specs.Prelude.{◌⊎◌, Option, Some, decimal, codes}
 use Rattle.mc_base.specs.declared.kind.Kind.{Kind}
 use Rattle.mc_base.specs.declared.kind.Kind.TheVariants.{NoPlacement}
 use Rattle.mc_report.specs.declared.report_line.ReportLine.{ReportLine}

@@ -1,4 +1,4 @@
-ghost use Rattle.std.specs.Prelude.{◌≡◌, ◌+◌, ◌≤◌, length, IfOk, IfSome, option_copied};
+ghost use Rattle.std.specs.Prelude.{◌≡◌, ◌+◌, ◌≤◌, [], length, IfOk, IfSome, option_copied};
 ghost use Rattle.mc_report.specs.Fronts.{starts_digit, word_front, digits_front, number_front, labelled, number_view, atom_front, atom_view, goes_on, list_view, FindsList};
 
 use mc_base::{AtomId, AtomList, NoMemory};
@@ -103,14 +103,23 @@ fn goes_on(text: &[u8]) -> bool
     }
 }
 
+/// An empty list with room for the atoms of a map that this text begins with: of different atoms only nine are
+/// written in less than three bytes, a comma among them, and more than nine bytes stand behind a map.
+fn list_with_room(alloc: Global, text: &[u8]) -> Result<AtomList, NoMemory>
+    ensures { IfOk result (λ atoms. atoms ≡ []) }
+{
+    let atoms = Vec::with_capacity(alloc, text.len() / 3)?;
+    Ok(AtomList::from_vec(atoms))
+}
+
 /// A list of atoms, counted from 1 and parted by commas, and what is behind it.
 pub fn numbers_front(alloc: Global, text: &[u8]) -> Result<Option<(AtomList, &[u8])>, NoMemory>
     ensures { IfOk result (λ found. FindsList text.now (list_view found)) }
 {
-    let mut atoms = AtomList::new(alloc);
     if !goes_on(text) {
-        return Ok(Some((atoms, text)));
+        return Ok(Some((AtomList::new(alloc), text)));
     }
+    let mut atoms = list_with_room(alloc, text)?;
     let mut rest = text;
     loop {
         match atom_front(rest) {

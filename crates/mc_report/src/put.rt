@@ -1,23 +1,38 @@
-ghost use Rattle.std.specs.Prelude.{◌≡◌, ◌++◌, ◌+◌, ◌-◌, ◌^◌, ◌<◌, ◌≤◌, All, IfOk, OnOk, OnErr, codes, decimal};
+ghost use Rattle.std.specs.Prelude.{◌≡◌, ◌++◌, [], ◌+◌, ◌-◌, ◌^◌, ◌<◌, ◌≤◌, All, IfOk, OnOk, OnErr, codes, decimal};
 ghost use Rattle.mc_report.specs.Report.{numbers, later_numbers, ok_line, reason, refused_line};
 
-use itoa::Buffer;
 use mc_base::{AtomId, Kind, NoMemory, Refusal, Text};
+use mc_digits::put_number;
 use std::alloc::Global;
 
-fn push_number(text: &mut Text, n: u64) -> Result<(), NoMemory>
-    ensures { OnOk result (text.new ≡ text.old ++ decimal n) }
+/// An empty line with room for a list of so many atoms, as most are, and for what stands around it.
+fn empty_line(alloc: Global, atoms: usize) -> Result<Text, NoMemory>
+    ensures { IfOk result (λ line. line ≡ []) }
 {
-    let mut buffer = Buffer::new();
-    text.extend(buffer.format(n).as_bytes())
+    let bytes = Vec::with_capacity(alloc, atoms.saturating_mul(4).saturating_add(64))?;
+    Ok(Text::from_vec(bytes))
 }
 
+/// Adds a line, whole or not at all. It is handed on where nothing stands before it.
+fn put_line(out: &mut Text, line: Text) -> Result<(), NoMemory>
+    ensures ok { OnOk result (out.new ≡ out.old ++ line) }
+    ensures err { OnErr result (out.new ≡ out.old) }
+{
+    if out.len() == 0 {
+        *out = line;
+        return Ok(());
+    }
+    out.extend(line.as_slice())
+}
+
+#[inline]
 fn push_atom(text: &mut Text, atom: AtomId) -> Result<(), NoMemory>
     ensures { OnOk result (text.new ≡ text.old ++ decimal (atom.0 + 1)) }
 {
-    push_number(text, atom.0 as u64 + 1)
+    put_number(text, atom.0 as u64 + 1)
 }
 
+#[inline]
 fn push_later(text: &mut Text, atom: AtomId) -> Result<(), NoMemory>
     ensures { OnOk result (text.new ≡ text.old ++ codes "," ++ decimal (atom.0 + 1)) }
 {
@@ -48,16 +63,16 @@ fn ok_line(
 ) -> Result<Text, NoMemory>
     ensures { IfOk result (λ text. text ≡ ok_line k map.now idle ring lines) }
 {
-    let mut text = Text::new(alloc);
-    push_number(&mut text, k)?;
+    let mut text = empty_line(alloc, map.len())?;
+    put_number(&mut text, k)?;
     text.extend(b" ok map=")?;
     push_numbers(&mut text, map)?;
     text.extend(b" idle=")?;
-    push_number(&mut text, idle as u64)?;
+    put_number(&mut text, idle as u64)?;
     text.extend(b" ring=")?;
-    push_number(&mut text, ring as u64)?;
+    put_number(&mut text, ring as u64)?;
     text.extend(b" data=")?;
-    push_number(&mut text, lines as u64)?;
+    put_number(&mut text, lines as u64)?;
     text.push(b'\n')?;
     Ok(text)
 }
@@ -79,7 +94,7 @@ pub fn put_ok(
     ensures err { OnErr result (out.new ≡ out.old) }
 {
     let line = ok_line(alloc, k, map, idle, ring, lines)?;
-    out.extend(line.as_slice())
+    put_line(out, line)
 }
 
 /// What is said of a refusal beside its kind.
@@ -91,11 +106,11 @@ fn push_reason(text: &mut Text, refusal: &Refusal) -> Result<(), NoMemory>
             text.extend(b" barrier=")?;
             push_numbers(text, refusal.barrier.as_slice())?;
             text.extend(b" odd=")?;
-            push_number(text, refusal.odd as u64)
+            put_number(text, refusal.odd as u64)
         }
         _ => {
             text.extend(b" place=")?;
-            push_number(text, refusal.place as u64)
+            put_number(text, refusal.place as u64)
         }
     }
 }
@@ -103,8 +118,8 @@ fn push_reason(text: &mut Text, refusal: &Refusal) -> Result<(), NoMemory>
 fn refused_line(alloc: Global, k: u64, refusal: &Refusal) -> Result<Text, NoMemory>
     ensures { IfOk result (λ text. text ≡ refused_line k refusal.now) }
 {
-    let mut text = Text::new(alloc);
-    push_number(&mut text, k)?;
+    let mut text = empty_line(alloc, refusal.barrier.len())?;
+    put_number(&mut text, k)?;
     text.extend(b" refused ")?;
     text.extend(refusal.kind.name())?;
     push_reason(&mut text, refusal)?;
@@ -119,5 +134,5 @@ pub fn put_refused(alloc: Global, out: &mut Text, k: u64, refusal: &Refusal) -> 
     ensures err { OnErr result (out.new ≡ out.old) }
 {
     let line = refused_line(alloc, k, refusal)?;
-    out.extend(line.as_slice())
+    put_line(out, line)
 }

@@ -10,9 +10,10 @@ use Rattle.mc_mol.specs.declared.parts.HalfEdge.{HalfEdge}
 use Rattle.mc_mol.specs.Molecule.{Molecule, joins, are_joined}
 use Rattle.mc_mol.specs.WellFormed.{IsMolecule}
 use Rattle.mc_mol.specs.HalfEdges.{half_edges, AllHaveTwins, HasTwin}
-use Rattle.mc_mol.specs.Same.{HasBond}
+use Rattle.mc_mol.specs.Same.{HasBond, entry}
 use Rattle.mc_mol.proofs.Halves.{are_joined-half_edges}
 use Rattle.mc_same.specs.Between.{JoinedBy, FindsBond}
+use Rattle.mc_same.specs.Differences.{SameBond}
 use Rattle.mc_same.proofs.Joining.{at_get, get_at, one_bond, joins_turned, are_joined_turned, joined_some}
 
 -- what stands past the end of a list of half-edges
@@ -101,3 +102,11 @@ every_half m u e halves i d P is apart past each v joined ne =
     let found = joined_half m u v halves d is (apart v joined) joined in
     let less : found.0 < i = let within = found.1 in omega arith in
     subst P found.2 (each found.0 less (λ same. ne (sym found.2 ∙ same)))
+
+-- a bond of the output that has its bond of the input
+pub same_bond : (m n : Molecule) (f : List AtomId) (k : ℕ) (bond : Bond) → slice_get n.bonds k ≡ Some bond
+    → HasBond m.bonds (entry f bond.first.0) (entry f bond.second.0) bond.order → SameBond m n f k
+same_bond m n f k bond is has = λ other at. subst (λ (b : Bond). HasBond m.bonds (entry f b.first.0) (entry f b.second.0) b.order) (same other at) has
+  where
+    same : (other : Bond) → slice_get n.bonds k ≡ Some other → bond ≡ other
+    same other at = cc

@@ -1,4 +1,5 @@
-ghost use Rattle.std.specs.Prelude.{◌≡◌, ◌≢◌, ◌≤◌, ◌<◌, ◌↔◌, IsTrue, length};
+ghost use Rattle.std.specs.Prelude.{◌≡◌, ◌≢◌, ◌≤◌, ◌<◌, ◌↔◌, IfSome, IsSome, length};
+ghost use Rattle.mc_mol.specs.Molecule.{joins};
 ghost use Rattle.mc_mol.specs.Same.{HasBond, entry};
 ghost use Rattle.mc_mol.specs.WellFormed.{IsMolecule, IsBond};
 ghost use Rattle.mc_same.specs.Between.{FindsBond};
@@ -35,25 +36,49 @@ fn bond_at(mol: &Mol, u: AtomId, v: AtomId) -> Option<BondId>
     None
 }
 
-/// Whether the input has the bond of the output's order.
-fn has_bond(input: &Mol, map: &[AtomId], bond: Bond) -> bool
+fn joins(bond: Bond, u: AtomId, v: AtomId) -> bool
+    ensures { result ≡ joins bond u.0 v.0 }
+{
+    (bond.first.0 == u.0 && bond.second.0 == v.0) || (bond.first.0 == v.0 && bond.second.0 == u.0)
+}
+
+/// The same. The bond of a number that is at hand is looked at first.
+fn bond_near(mol: &Mol, u: AtomId, v: AtomId, near: u32) -> Option<BondId>
+    requires first { u.0 < length mol.now.atoms }
+    requires second { v.0 < length mol.now.atoms }
+    requires different { u.0 ≢ v.0 }
+    ensures { FindsBond mol.now u.0 v.0 result }
+{
+    if near < mol.bond_count() && joins(mol.bond(BondId(near)), u, v) {
+        return Some(BondId(near));
+    }
+    bond_between(mol, u, v)
+}
+
+/// The input's bond for a bond of the output, if it has one of its order.
+fn counterpart(input: &Mol, map: &[AtomId], bond: Bond, near: u32) -> Option<BondId>
     requires well_formed { IsMolecule input.now }
     requires bond { IsBond (length map.now) bond }
     requires in_range { Holds (length map.now) (InRange input.now map.now) }
     requires new { Holds (length map.now) (IsNew map.now) }
-    ensures { IsTrue result ↔ HasBond input.now.bonds (entry map.now bond.first.0) (entry map.now bond.second.0) bond.order }
+    ensures found { IsSome result ↔ HasBond input.now.bonds (entry map.now bond.first.0) (entry map.now bond.second.0) bond.order }
+    ensures within { IfSome result (λ found. found.0 < 999) }
 {
-    match bond_between(
+    let found = bond_near(
         input,
         map[bond.first.0 as usize],
         map[bond.second.0 as usize],
-    ) {
-        Some(found) => input.bond(found).order == bond.order,
-        None => false,
+        near,
+    )?;
+    if input.bond(found).order == bond.order {
+        Some(found)
+    } else {
+        None
     }
 }
 
-/// The number of the first bond that has no bond of the input of its order.
+/// The number of the first bond that has no bond of the input of its order. Mostly the bonds of both follow one
+/// another in one order, so that each is looked for behind the last one found.
 pub fn first_other_bond(input: &Mol, output: &Mol, map: &[AtomId]) -> Option<u32>
     requires well_formed { IsMolecule input.now }
     requires same_length { length map.now ≡ length output.now.atoms }
@@ -61,9 +86,11 @@ pub fn first_other_bond(input: &Mol, output: &Mol, map: &[AtomId]) -> Option<u32
     requires new { Holds (length map.now) (IsNew map.now) }
     ensures { FirstFailure (length output.now.bonds) (SameBond input.now output.now map.now) result }
 {
+    let mut next = 0u32;
     for k in 0..output.bond_count() {
-        if !has_bond(input, map, output.bond(BondId(k))) {
-            return Some(k + 1);
+        match counterpart(input, map, output.bond(BondId(k)), next) {
+            Some(found) => next = found.0 + 1,
+            None => return Some(k + 1),
         }
     }
     None

@@ -1,4 +1,4 @@
-ghost use Rattle.std.specs.Prelude.{◌≡◌, ◌<◌, ◌↔◌, IsTrue, Some, length, slice_get};
+ghost use Rattle.std.specs.Prelude.{◌≡◌, ◌<◌, ◌↔◌, IsTrue, None, Some, false, length, slice_get};
 ghost use Rattle.mc_mol.specs.Molecule.{joins};
 ghost use Rattle.mc_mol.specs.Same.{SameSides, entry, stand_together, together_at};
 ghost use Rattle.mc_mol.specs.WellFormed.{IsMolecule, IsBond};
@@ -149,6 +149,18 @@ fn sides_agree(input: &Mol, output: &Mol, map: &[AtomId], k: BondId) -> bool
     }
 }
 
+/// Whether a bond has sides.
+fn has_sides(mol: &Mol) -> bool
+    ensures { result ≡ false → Holds (length mol.now.bonds) (λ k. slice_get mol.now.sides k ≡ Some None) }
+{
+    for k in 0..mol.bond_count() {
+        if mol.sides(BondId(k)).is_some() {
+            return true;
+        }
+    }
+    false
+}
+
 /// The number of the first bond whose sides differ from those of its bond of the input.
 pub fn first_other_sides(input: &Mol, output: &Mol, map: &[AtomId]) -> Option<u32>
     requires input { IsMolecule input.now }
@@ -159,6 +171,9 @@ pub fn first_other_sides(input: &Mol, output: &Mol, map: &[AtomId]) -> Option<u3
     requires bonds { Holds (length output.now.bonds) (SameBond input.now output.now map.now) }
     ensures { FirstFailure (length output.now.bonds) (SidesAgree input.now output.now map.now) result }
 {
+    if !has_sides(input) && !has_sides(output) {
+        return None;
+    }
     for k in 0..output.bond_count() {
         if !sides_agree(input, output, map, BondId(k)) {
             return Some(k + 1);

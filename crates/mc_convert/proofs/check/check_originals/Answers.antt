@@ -7,6 +7,8 @@ use Rattle.mc_convert.proofs.CheckLifts.{advance_none, advance_trans, ahead_kept
 use Rattle.mc_convert.proofs.Checking.{Progress, fresh_begun, given_of, none_of, all_found, checked_next, halted_next, written_trans, check_halts_later}
 use Rattle.mc_convert.proofs.check.check_originals.Goals as goal
 
+-- `_start` is what stood at the call, `_before` where a round begins, `_reading` behind the original that is read, and
+-- `_checking` behind its check.
 pub loop-original-init : goal.loop-original-init
 loop-original-init g c = record {
   may_read = fresh_may g.S.Source.LIMIT c.args.readers.now c.requires;
@@ -20,166 +22,166 @@ loop-original-init g c = record {
 pub returns-in-Ok-None-clause-found : goal.returns-in-Ok-None-clause-found
 returns-in-Ok-None-clause-found g c =
     let read = c.in-Ok-None.ensures in
-    let o = g.S.Source.left c.args.source.now 0 in
-    let c0 = g.S.Source.left c.args.source.now 1 in
-    let r0 = g.S.Source.left c.args.source.now 2 in
-    let o1 = ahead c.loop-original.readers.originals (g.S.Source.left c.loop-original.source 0) in
-    let c1 = ahead c.loop-original.readers.converted (g.S.Source.left c.loop-original.source 1) in
-    let r1 = ahead c.loop-original.readers.report (g.S.Source.left c.loop-original.source 2) in
-    let o2 = ahead c.read_original.new.self.originals (g.S.Source.left c.read_original.new.source 0) in
-    let c2 = ahead c.read_original.new.self.converted (g.S.Source.left c.read_original.new.source 1) in
-    let r2 = ahead c.read_original.new.self.report (g.S.Source.left c.read_original.new.source 2) in
-    let H0 : Held = held_by (g.K.Sink.held c.args.sink.now) (g.K.Sink.faults c.args.sink.now) in
-    let H1 : Held = held_by (g.K.Sink.held c.loop-original.sink) (g.K.Sink.faults c.loop-original.sink) in
-    let same_c = ahead_kept c.loop-original.readers.converted c.read_original.new.self.converted (g.S.Source.left c.loop-original.source 1) (g.S.Source.left c.read_original.new.source 1) read.kept.0 (read.others 1 (λ x. omega arith)) in
-    let same_r = ahead_kept c.loop-original.readers.report c.read_original.new.self.report (g.S.Source.left c.loop-original.source 2) (g.S.Source.left c.read_original.new.source 2) read.kept.1 (read.others 2 (λ x. omega arith)) in
-    all_found c.loop-original.number c.loop-original.all_true o c0 r0 o1 c1 r1 o2 c2 r2 H0 H1 c.loop-original.invariant.progress (none_of o1 o2 c.in-Ok-None.field-0 c.in-Ok-None.field-0-is read.reads) same_c same_r
+    let originals_start = g.S.Source.left c.args.source.now 0 in
+    let converted_start = g.S.Source.left c.args.source.now 1 in
+    let report_start = g.S.Source.left c.args.source.now 2 in
+    let originals_before = ahead c.loop-original.readers.originals (g.S.Source.left c.loop-original.source 0) in
+    let converted_before = ahead c.loop-original.readers.converted (g.S.Source.left c.loop-original.source 1) in
+    let report_before = ahead c.loop-original.readers.report (g.S.Source.left c.loop-original.source 2) in
+    let originals_reading = ahead c.read_original.new.self.originals (g.S.Source.left c.read_original.new.source 0) in
+    let converted_reading = ahead c.read_original.new.self.converted (g.S.Source.left c.read_original.new.source 1) in
+    let report_reading = ahead c.read_original.new.self.report (g.S.Source.left c.read_original.new.source 2) in
+    let held_start : Held = held_by (g.K.Sink.held c.args.sink.now) (g.K.Sink.faults c.args.sink.now) in
+    let held_before : Held = held_by (g.K.Sink.held c.loop-original.sink) (g.K.Sink.faults c.loop-original.sink) in
+    let converted_kept = ahead_kept c.loop-original.readers.converted c.read_original.new.self.converted (g.S.Source.left c.loop-original.source 1) (g.S.Source.left c.read_original.new.source 1) read.kept.0 (read.others 1 (λ x. omega arith)) in
+    let report_kept = ahead_kept c.loop-original.readers.report c.read_original.new.self.report (g.S.Source.left c.loop-original.source 2) (g.S.Source.left c.read_original.new.source 2) read.kept.1 (read.others 2 (λ x. omega arith)) in
+    all_found c.loop-original.number c.loop-original.all_true originals_start converted_start report_start originals_before converted_before report_before originals_reading converted_reading report_reading held_start held_before c.loop-original.invariant.progress (none_of originals_before originals_reading c.in-Ok-None.field-0 c.in-Ok-None.field-0-is read.reads) converted_kept report_kept
 
 pub loop-original-preserved-then-all_true : goal.loop-original-preserved-then-all_true
 loop-original-preserved-then-all_true g c =
     let inv = c.loop-original.invariant in
     let read = c.in-Ok-Some.ensures in
-    let o = g.S.Source.left c.args.source.now 0 in
-    let c0 = g.S.Source.left c.args.source.now 1 in
-    let r0 = g.S.Source.left c.args.source.now 2 in
-    let o1 = ahead c.loop-original.readers.originals (g.S.Source.left c.loop-original.source 0) in
-    let c1 = ahead c.loop-original.readers.converted (g.S.Source.left c.loop-original.source 1) in
-    let r1 = ahead c.loop-original.readers.report (g.S.Source.left c.loop-original.source 2) in
-    let o2 = ahead c.read_original.new.self.originals (g.S.Source.left c.read_original.new.source 0) in
-    let c2 = ahead c.read_original.new.self.converted (g.S.Source.left c.read_original.new.source 1) in
-    let r2 = ahead c.read_original.new.self.report (g.S.Source.left c.read_original.new.source 2) in
-    let o3 = ahead c.check_next.new.readers.originals (g.S.Source.left c.check_next.new.source 0) in
-    let c3 = ahead c.check_next.new.readers.converted (g.S.Source.left c.check_next.new.source 1) in
-    let r3 = ahead c.check_next.new.readers.report (g.S.Source.left c.check_next.new.source 2) in
-    let H0 : Held = held_by (g.K.Sink.held c.args.sink.now) (g.K.Sink.faults c.args.sink.now) in
-    let H1 : Held = held_by (g.K.Sink.held c.loop-original.sink) (g.K.Sink.faults c.loop-original.sink) in
-    let H3 : Held = held_by (g.K.Sink.held c.check_next.new.sink) (g.K.Sink.faults c.check_next.new.sink) in
-    let T0 : ℕ → Told = told (g.S.Source.left c.args.source.now) (g.S.Source.faults c.args.source.now) (g.S.Source.taken c.args.source.now) (g.S.Source.ended c.args.source.now) in
-    let T1 : ℕ → Told = told (g.S.Source.left c.loop-original.source) (g.S.Source.faults c.loop-original.source) (g.S.Source.taken c.loop-original.source) (g.S.Source.ended c.loop-original.source) in
-    let T2 : ℕ → Told = told (g.S.Source.left c.read_original.new.source) (g.S.Source.faults c.read_original.new.source) (g.S.Source.taken c.read_original.new.source) (g.S.Source.ended c.read_original.new.source) in
-    let T3 : ℕ → Told = told (g.S.Source.left c.check_next.new.source) (g.S.Source.faults c.check_next.new.source) (g.S.Source.taken c.check_next.new.source) (g.S.Source.ended c.check_next.new.source) in
-    let given = given_of o1 o2 c.in-Ok-Some.field-0 c.in-Ok-Some.original c.in-Ok-Some.field-0-is read.reads in
-    let same_c = ahead_kept c.loop-original.readers.converted c.read_original.new.self.converted (g.S.Source.left c.loop-original.source 1) (g.S.Source.left c.read_original.new.source 1) read.kept.0 (read.others 1 (λ x. omega arith)) in
-    let same_r = ahead_kept c.loop-original.readers.report c.read_original.new.self.report (g.S.Source.left c.loop-original.source 2) (g.S.Source.left c.read_original.new.source 2) read.kept.1 (read.others 2 (λ x. omega arith)) in
+    let originals_start = g.S.Source.left c.args.source.now 0 in
+    let converted_start = g.S.Source.left c.args.source.now 1 in
+    let report_start = g.S.Source.left c.args.source.now 2 in
+    let originals_before = ahead c.loop-original.readers.originals (g.S.Source.left c.loop-original.source 0) in
+    let converted_before = ahead c.loop-original.readers.converted (g.S.Source.left c.loop-original.source 1) in
+    let report_before = ahead c.loop-original.readers.report (g.S.Source.left c.loop-original.source 2) in
+    let originals_reading = ahead c.read_original.new.self.originals (g.S.Source.left c.read_original.new.source 0) in
+    let converted_reading = ahead c.read_original.new.self.converted (g.S.Source.left c.read_original.new.source 1) in
+    let report_reading = ahead c.read_original.new.self.report (g.S.Source.left c.read_original.new.source 2) in
+    let originals_checking = ahead c.check_next.new.readers.originals (g.S.Source.left c.check_next.new.source 0) in
+    let converted_checking = ahead c.check_next.new.readers.converted (g.S.Source.left c.check_next.new.source 1) in
+    let report_checking = ahead c.check_next.new.readers.report (g.S.Source.left c.check_next.new.source 2) in
+    let held_start : Held = held_by (g.K.Sink.held c.args.sink.now) (g.K.Sink.faults c.args.sink.now) in
+    let held_before : Held = held_by (g.K.Sink.held c.loop-original.sink) (g.K.Sink.faults c.loop-original.sink) in
+    let held_checking : Held = held_by (g.K.Sink.held c.check_next.new.sink) (g.K.Sink.faults c.check_next.new.sink) in
+    let told_start : ℕ → Told = told (g.S.Source.left c.args.source.now) (g.S.Source.faults c.args.source.now) (g.S.Source.taken c.args.source.now) (g.S.Source.ended c.args.source.now) in
+    let told_before : ℕ → Told = told (g.S.Source.left c.loop-original.source) (g.S.Source.faults c.loop-original.source) (g.S.Source.taken c.loop-original.source) (g.S.Source.ended c.loop-original.source) in
+    let told_reading : ℕ → Told = told (g.S.Source.left c.read_original.new.source) (g.S.Source.faults c.read_original.new.source) (g.S.Source.taken c.read_original.new.source) (g.S.Source.ended c.read_original.new.source) in
+    let told_checking : ℕ → Told = told (g.S.Source.left c.check_next.new.source) (g.S.Source.faults c.check_next.new.source) (g.S.Source.taken c.check_next.new.source) (g.S.Source.ended c.check_next.new.source) in
+    let given = given_of originals_before originals_reading c.in-Ok-Some.field-0 c.in-Ok-Some.original c.in-Ok-Some.field-0-is read.reads in
+    let converted_kept = ahead_kept c.loop-original.readers.converted c.read_original.new.self.converted (g.S.Source.left c.loop-original.source 1) (g.S.Source.left c.read_original.new.source 1) read.kept.0 (read.others 1 (λ x. omega arith)) in
+    let report_kept = ahead_kept c.loop-original.readers.report c.read_original.new.self.report (g.S.Source.left c.loop-original.source 2) (g.S.Source.left c.read_original.new.source 2) read.kept.1 (read.others 2 (λ x. omega arith)) in
     let one = c.in-Ok.ensures.checked given.text given.reads in
-    let same_o = ahead_kept c.read_original.new.self.originals c.check_next.new.readers.originals (g.S.Source.left c.read_original.new.source 0) (g.S.Source.left c.check_next.new.source 0) c.in-Ok.ensures.kept c.in-Ok.ensures.left in
-    let progress = checked_next c.loop-original.number (c.loop-original.number + 1) c.loop-original.all_true c.in-Ok.is_true o c0 r0 o1 c1 r1 o2 c2 r2 o3 c3 r3 H0 H1 H3 given.text inv.progress refl given.takes same_c same_r one same_o in
+    let originals_kept = ahead_kept c.read_original.new.self.originals c.check_next.new.readers.originals (g.S.Source.left c.read_original.new.source 0) (g.S.Source.left c.check_next.new.source 0) c.in-Ok.ensures.kept c.in-Ok.ensures.left in
+    let progress = checked_next c.loop-original.number (c.loop-original.number + 1) c.loop-original.all_true c.in-Ok.is_true originals_start converted_start report_start originals_before converted_before report_before originals_reading converted_reading report_reading originals_checking converted_checking report_checking held_start held_before held_checking given.text inv.progress refl given.takes converted_kept report_kept one originals_kept in
     let passed = read.passed (rw c.in-Ok-Some.field-0-is refl) in
     let numbered = inv.numbered in
     let few = read.few in record {
       may_read = c.in-Ok.ensures.may_read;
       numbered = rw c.in-Ok.ensures.kept (omega arith);
       few = rw c.in-Ok.ensures.kept few;
-      advance = advance_trans c.args.readers.now c.read_original.new.self c.check_next.new.readers T0 T2 T3 (advance_trans c.args.readers.now c.loop-original.readers c.read_original.new.self T0 T1 T2 inv.advance read.advance) c.in-Ok.ensures.advance;
-      written = written_trans H0 H1 H3 inv.written c.in-Ok.ensures.written;
-      progress = subst (λ (t : Bool). Progress (c.loop-original.number + 1) (t && c.in-Ok.is_true) o c0 r0 o3 c3 r3 H0 H3) c.if-all_true.true progress;
+      advance = advance_trans c.args.readers.now c.read_original.new.self c.check_next.new.readers told_start told_reading told_checking (advance_trans c.args.readers.now c.loop-original.readers c.read_original.new.self told_start told_before told_reading inv.advance read.advance) c.in-Ok.ensures.advance;
+      written = written_trans held_start held_before held_checking inv.written c.in-Ok.ensures.written;
+      progress = subst (λ (t : Bool). Progress (c.loop-original.number + 1) (t && c.in-Ok.is_true) originals_start converted_start report_start originals_checking converted_checking report_checking held_start held_checking) c.if-all_true.true progress;
     }
 
 pub loop-original-preserved : goal.loop-original-preserved
 loop-original-preserved g c =
     let inv = c.loop-original.invariant in
     let read = c.in-Ok-Some.ensures in
-    let o = g.S.Source.left c.args.source.now 0 in
-    let c0 = g.S.Source.left c.args.source.now 1 in
-    let r0 = g.S.Source.left c.args.source.now 2 in
-    let o1 = ahead c.loop-original.readers.originals (g.S.Source.left c.loop-original.source 0) in
-    let c1 = ahead c.loop-original.readers.converted (g.S.Source.left c.loop-original.source 1) in
-    let r1 = ahead c.loop-original.readers.report (g.S.Source.left c.loop-original.source 2) in
-    let o2 = ahead c.read_original.new.self.originals (g.S.Source.left c.read_original.new.source 0) in
-    let c2 = ahead c.read_original.new.self.converted (g.S.Source.left c.read_original.new.source 1) in
-    let r2 = ahead c.read_original.new.self.report (g.S.Source.left c.read_original.new.source 2) in
-    let o3 = ahead c.check_next.new.readers.originals (g.S.Source.left c.check_next.new.source 0) in
-    let c3 = ahead c.check_next.new.readers.converted (g.S.Source.left c.check_next.new.source 1) in
-    let r3 = ahead c.check_next.new.readers.report (g.S.Source.left c.check_next.new.source 2) in
-    let H0 : Held = held_by (g.K.Sink.held c.args.sink.now) (g.K.Sink.faults c.args.sink.now) in
-    let H1 : Held = held_by (g.K.Sink.held c.loop-original.sink) (g.K.Sink.faults c.loop-original.sink) in
-    let H3 : Held = held_by (g.K.Sink.held c.check_next.new.sink) (g.K.Sink.faults c.check_next.new.sink) in
-    let T0 : ℕ → Told = told (g.S.Source.left c.args.source.now) (g.S.Source.faults c.args.source.now) (g.S.Source.taken c.args.source.now) (g.S.Source.ended c.args.source.now) in
-    let T1 : ℕ → Told = told (g.S.Source.left c.loop-original.source) (g.S.Source.faults c.loop-original.source) (g.S.Source.taken c.loop-original.source) (g.S.Source.ended c.loop-original.source) in
-    let T2 : ℕ → Told = told (g.S.Source.left c.read_original.new.source) (g.S.Source.faults c.read_original.new.source) (g.S.Source.taken c.read_original.new.source) (g.S.Source.ended c.read_original.new.source) in
-    let T3 : ℕ → Told = told (g.S.Source.left c.check_next.new.source) (g.S.Source.faults c.check_next.new.source) (g.S.Source.taken c.check_next.new.source) (g.S.Source.ended c.check_next.new.source) in
-    let given = given_of o1 o2 c.in-Ok-Some.field-0 c.in-Ok-Some.original c.in-Ok-Some.field-0-is read.reads in
-    let same_c = ahead_kept c.loop-original.readers.converted c.read_original.new.self.converted (g.S.Source.left c.loop-original.source 1) (g.S.Source.left c.read_original.new.source 1) read.kept.0 (read.others 1 (λ x. omega arith)) in
-    let same_r = ahead_kept c.loop-original.readers.report c.read_original.new.self.report (g.S.Source.left c.loop-original.source 2) (g.S.Source.left c.read_original.new.source 2) read.kept.1 (read.others 2 (λ x. omega arith)) in
+    let originals_start = g.S.Source.left c.args.source.now 0 in
+    let converted_start = g.S.Source.left c.args.source.now 1 in
+    let report_start = g.S.Source.left c.args.source.now 2 in
+    let originals_before = ahead c.loop-original.readers.originals (g.S.Source.left c.loop-original.source 0) in
+    let converted_before = ahead c.loop-original.readers.converted (g.S.Source.left c.loop-original.source 1) in
+    let report_before = ahead c.loop-original.readers.report (g.S.Source.left c.loop-original.source 2) in
+    let originals_reading = ahead c.read_original.new.self.originals (g.S.Source.left c.read_original.new.source 0) in
+    let converted_reading = ahead c.read_original.new.self.converted (g.S.Source.left c.read_original.new.source 1) in
+    let report_reading = ahead c.read_original.new.self.report (g.S.Source.left c.read_original.new.source 2) in
+    let originals_checking = ahead c.check_next.new.readers.originals (g.S.Source.left c.check_next.new.source 0) in
+    let converted_checking = ahead c.check_next.new.readers.converted (g.S.Source.left c.check_next.new.source 1) in
+    let report_checking = ahead c.check_next.new.readers.report (g.S.Source.left c.check_next.new.source 2) in
+    let held_start : Held = held_by (g.K.Sink.held c.args.sink.now) (g.K.Sink.faults c.args.sink.now) in
+    let held_before : Held = held_by (g.K.Sink.held c.loop-original.sink) (g.K.Sink.faults c.loop-original.sink) in
+    let held_checking : Held = held_by (g.K.Sink.held c.check_next.new.sink) (g.K.Sink.faults c.check_next.new.sink) in
+    let told_start : ℕ → Told = told (g.S.Source.left c.args.source.now) (g.S.Source.faults c.args.source.now) (g.S.Source.taken c.args.source.now) (g.S.Source.ended c.args.source.now) in
+    let told_before : ℕ → Told = told (g.S.Source.left c.loop-original.source) (g.S.Source.faults c.loop-original.source) (g.S.Source.taken c.loop-original.source) (g.S.Source.ended c.loop-original.source) in
+    let told_reading : ℕ → Told = told (g.S.Source.left c.read_original.new.source) (g.S.Source.faults c.read_original.new.source) (g.S.Source.taken c.read_original.new.source) (g.S.Source.ended c.read_original.new.source) in
+    let told_checking : ℕ → Told = told (g.S.Source.left c.check_next.new.source) (g.S.Source.faults c.check_next.new.source) (g.S.Source.taken c.check_next.new.source) (g.S.Source.ended c.check_next.new.source) in
+    let given = given_of originals_before originals_reading c.in-Ok-Some.field-0 c.in-Ok-Some.original c.in-Ok-Some.field-0-is read.reads in
+    let converted_kept = ahead_kept c.loop-original.readers.converted c.read_original.new.self.converted (g.S.Source.left c.loop-original.source 1) (g.S.Source.left c.read_original.new.source 1) read.kept.0 (read.others 1 (λ x. omega arith)) in
+    let report_kept = ahead_kept c.loop-original.readers.report c.read_original.new.self.report (g.S.Source.left c.loop-original.source 2) (g.S.Source.left c.read_original.new.source 2) read.kept.1 (read.others 2 (λ x. omega arith)) in
     let one = c.in-Ok.ensures.checked given.text given.reads in
-    let same_o = ahead_kept c.read_original.new.self.originals c.check_next.new.readers.originals (g.S.Source.left c.read_original.new.source 0) (g.S.Source.left c.check_next.new.source 0) c.in-Ok.ensures.kept c.in-Ok.ensures.left in
-    let progress = checked_next c.loop-original.number (c.loop-original.number + 1) c.loop-original.all_true c.in-Ok.is_true o c0 r0 o1 c1 r1 o2 c2 r2 o3 c3 r3 H0 H1 H3 given.text inv.progress refl given.takes same_c same_r one same_o in
+    let originals_kept = ahead_kept c.read_original.new.self.originals c.check_next.new.readers.originals (g.S.Source.left c.read_original.new.source 0) (g.S.Source.left c.check_next.new.source 0) c.in-Ok.ensures.kept c.in-Ok.ensures.left in
+    let progress = checked_next c.loop-original.number (c.loop-original.number + 1) c.loop-original.all_true c.in-Ok.is_true originals_start converted_start report_start originals_before converted_before report_before originals_reading converted_reading report_reading originals_checking converted_checking report_checking held_start held_before held_checking given.text inv.progress refl given.takes converted_kept report_kept one originals_kept in
     let passed = read.passed (rw c.in-Ok-Some.field-0-is refl) in
     let numbered = inv.numbered in
     let few = read.few in record {
       may_read = c.in-Ok.ensures.may_read;
       numbered = rw c.in-Ok.ensures.kept (omega arith);
       few = rw c.in-Ok.ensures.kept few;
-      advance = advance_trans c.args.readers.now c.read_original.new.self c.check_next.new.readers T0 T2 T3 (advance_trans c.args.readers.now c.loop-original.readers c.read_original.new.self T0 T1 T2 inv.advance read.advance) c.in-Ok.ensures.advance;
-      written = written_trans H0 H1 H3 inv.written c.in-Ok.ensures.written;
-      progress = subst (λ (t : Bool). Progress (c.loop-original.number + 1) t o c0 r0 o3 c3 r3 H0 H3) (ap (λ (t : Bool). t && c.in-Ok.is_true) c.if-all_true.false ∙ sym c.if-all_true.false) progress;
+      advance = advance_trans c.args.readers.now c.read_original.new.self c.check_next.new.readers told_start told_reading told_checking (advance_trans c.args.readers.now c.loop-original.readers c.read_original.new.self told_start told_before told_reading inv.advance read.advance) c.in-Ok.ensures.advance;
+      written = written_trans held_start held_before held_checking inv.written c.in-Ok.ensures.written;
+      progress = subst (λ (t : Bool). Progress (c.loop-original.number + 1) t originals_start converted_start report_start originals_checking converted_checking report_checking held_start held_checking) (ap (λ (t : Bool). t && c.in-Ok.is_true) c.if-all_true.false ∙ sym c.if-all_true.false) progress;
     }
 
 pub returns-in-Err-check_next-clause-some : goal.returns-in-Err-check_next-clause-some
 returns-in-Err-check_next-clause-some g c =
     let inv = c.loop-original.invariant in
     let read = c.in-Ok-Some.ensures in
-    let o = g.S.Source.left c.args.source.now 0 in
-    let c0 = g.S.Source.left c.args.source.now 1 in
-    let r0 = g.S.Source.left c.args.source.now 2 in
-    let o1 = ahead c.loop-original.readers.originals (g.S.Source.left c.loop-original.source 0) in
-    let c1 = ahead c.loop-original.readers.converted (g.S.Source.left c.loop-original.source 1) in
-    let r1 = ahead c.loop-original.readers.report (g.S.Source.left c.loop-original.source 2) in
-    let o2 = ahead c.read_original.new.self.originals (g.S.Source.left c.read_original.new.source 0) in
-    let c2 = ahead c.read_original.new.self.converted (g.S.Source.left c.read_original.new.source 1) in
-    let r2 = ahead c.read_original.new.self.report (g.S.Source.left c.read_original.new.source 2) in
-    let o3 = ahead c.check_next.new.readers.originals (g.S.Source.left c.check_next.new.source 0) in
-    let c3 = ahead c.check_next.new.readers.converted (g.S.Source.left c.check_next.new.source 1) in
-    let r3 = ahead c.check_next.new.readers.report (g.S.Source.left c.check_next.new.source 2) in
-    let H0 : Held = held_by (g.K.Sink.held c.args.sink.now) (g.K.Sink.faults c.args.sink.now) in
-    let H1 : Held = held_by (g.K.Sink.held c.loop-original.sink) (g.K.Sink.faults c.loop-original.sink) in
-    let H3 : Held = held_by (g.K.Sink.held c.check_next.new.sink) (g.K.Sink.faults c.check_next.new.sink) in
-    let given = given_of o1 o2 c.in-Ok-Some.field-0 c.in-Ok-Some.original c.in-Ok-Some.field-0-is read.reads in
-    let same_c = ahead_kept c.loop-original.readers.converted c.read_original.new.self.converted (g.S.Source.left c.loop-original.source 1) (g.S.Source.left c.read_original.new.source 1) read.kept.0 (read.others 1 (λ x. omega arith)) in
-    let same_r = ahead_kept c.loop-original.readers.report c.read_original.new.self.report (g.S.Source.left c.loop-original.source 2) (g.S.Source.left c.read_original.new.source 2) read.kept.1 (read.others 2 (λ x. omega arith)) in
-    let halted = halted_next c.in-Err-check_next.halt c.loop-original.number (c.loop-original.number + 1) c.loop-original.all_true o c0 r0 o1 c1 r1 o2 c2 r2 c3 r3 H0 H1 H3 given.text inv.progress refl given.takes same_c same_r (c.in-Err-check_next.ensures.stopped given.text given.reads) in halted.0
+    let originals_start = g.S.Source.left c.args.source.now 0 in
+    let converted_start = g.S.Source.left c.args.source.now 1 in
+    let report_start = g.S.Source.left c.args.source.now 2 in
+    let originals_before = ahead c.loop-original.readers.originals (g.S.Source.left c.loop-original.source 0) in
+    let converted_before = ahead c.loop-original.readers.converted (g.S.Source.left c.loop-original.source 1) in
+    let report_before = ahead c.loop-original.readers.report (g.S.Source.left c.loop-original.source 2) in
+    let originals_reading = ahead c.read_original.new.self.originals (g.S.Source.left c.read_original.new.source 0) in
+    let converted_reading = ahead c.read_original.new.self.converted (g.S.Source.left c.read_original.new.source 1) in
+    let report_reading = ahead c.read_original.new.self.report (g.S.Source.left c.read_original.new.source 2) in
+    let originals_checking = ahead c.check_next.new.readers.originals (g.S.Source.left c.check_next.new.source 0) in
+    let converted_checking = ahead c.check_next.new.readers.converted (g.S.Source.left c.check_next.new.source 1) in
+    let report_checking = ahead c.check_next.new.readers.report (g.S.Source.left c.check_next.new.source 2) in
+    let held_start : Held = held_by (g.K.Sink.held c.args.sink.now) (g.K.Sink.faults c.args.sink.now) in
+    let held_before : Held = held_by (g.K.Sink.held c.loop-original.sink) (g.K.Sink.faults c.loop-original.sink) in
+    let held_checking : Held = held_by (g.K.Sink.held c.check_next.new.sink) (g.K.Sink.faults c.check_next.new.sink) in
+    let given = given_of originals_before originals_reading c.in-Ok-Some.field-0 c.in-Ok-Some.original c.in-Ok-Some.field-0-is read.reads in
+    let converted_kept = ahead_kept c.loop-original.readers.converted c.read_original.new.self.converted (g.S.Source.left c.loop-original.source 1) (g.S.Source.left c.read_original.new.source 1) read.kept.0 (read.others 1 (λ x. omega arith)) in
+    let report_kept = ahead_kept c.loop-original.readers.report c.read_original.new.self.report (g.S.Source.left c.loop-original.source 2) (g.S.Source.left c.read_original.new.source 2) read.kept.1 (read.others 2 (λ x. omega arith)) in
+    let halted = halted_next c.in-Err-check_next.halt c.loop-original.number (c.loop-original.number + 1) c.loop-original.all_true originals_start converted_start report_start originals_before converted_before report_before originals_reading converted_reading report_reading converted_checking report_checking held_start held_before held_checking given.text inv.progress refl given.takes converted_kept report_kept (c.in-Err-check_next.ensures.stopped given.text given.reads) in halted.0
 
 pub returns-in-Err-check_next-clause-less : goal.returns-in-Err-check_next-clause-less
 returns-in-Err-check_next-clause-less g c =
     let inv = c.loop-original.invariant in
     let read = c.in-Ok-Some.ensures in
-    let o = g.S.Source.left c.args.source.now 0 in
-    let c0 = g.S.Source.left c.args.source.now 1 in
-    let r0 = g.S.Source.left c.args.source.now 2 in
-    let o1 = ahead c.loop-original.readers.originals (g.S.Source.left c.loop-original.source 0) in
-    let c1 = ahead c.loop-original.readers.converted (g.S.Source.left c.loop-original.source 1) in
-    let r1 = ahead c.loop-original.readers.report (g.S.Source.left c.loop-original.source 2) in
-    let o2 = ahead c.read_original.new.self.originals (g.S.Source.left c.read_original.new.source 0) in
-    let c2 = ahead c.read_original.new.self.converted (g.S.Source.left c.read_original.new.source 1) in
-    let r2 = ahead c.read_original.new.self.report (g.S.Source.left c.read_original.new.source 2) in
-    let o3 = ahead c.check_next.new.readers.originals (g.S.Source.left c.check_next.new.source 0) in
-    let c3 = ahead c.check_next.new.readers.converted (g.S.Source.left c.check_next.new.source 1) in
-    let r3 = ahead c.check_next.new.readers.report (g.S.Source.left c.check_next.new.source 2) in
-    let H0 : Held = held_by (g.K.Sink.held c.args.sink.now) (g.K.Sink.faults c.args.sink.now) in
-    let H1 : Held = held_by (g.K.Sink.held c.loop-original.sink) (g.K.Sink.faults c.loop-original.sink) in
-    let H3 : Held = held_by (g.K.Sink.held c.check_next.new.sink) (g.K.Sink.faults c.check_next.new.sink) in
-    let given = given_of o1 o2 c.in-Ok-Some.field-0 c.in-Ok-Some.original c.in-Ok-Some.field-0-is read.reads in
-    let same_c = ahead_kept c.loop-original.readers.converted c.read_original.new.self.converted (g.S.Source.left c.loop-original.source 1) (g.S.Source.left c.read_original.new.source 1) read.kept.0 (read.others 1 (λ x. omega arith)) in
-    let same_r = ahead_kept c.loop-original.readers.report c.read_original.new.self.report (g.S.Source.left c.loop-original.source 2) (g.S.Source.left c.read_original.new.source 2) read.kept.1 (read.others 2 (λ x. omega arith)) in
-    let halted = halted_next c.in-Err-check_next.halt c.loop-original.number (c.loop-original.number + 1) c.loop-original.all_true o c0 r0 o1 c1 r1 o2 c2 r2 c3 r3 H0 H1 H3 given.text inv.progress refl given.takes same_c same_r (c.in-Err-check_next.ensures.stopped given.text given.reads) in halted.1
+    let originals_start = g.S.Source.left c.args.source.now 0 in
+    let converted_start = g.S.Source.left c.args.source.now 1 in
+    let report_start = g.S.Source.left c.args.source.now 2 in
+    let originals_before = ahead c.loop-original.readers.originals (g.S.Source.left c.loop-original.source 0) in
+    let converted_before = ahead c.loop-original.readers.converted (g.S.Source.left c.loop-original.source 1) in
+    let report_before = ahead c.loop-original.readers.report (g.S.Source.left c.loop-original.source 2) in
+    let originals_reading = ahead c.read_original.new.self.originals (g.S.Source.left c.read_original.new.source 0) in
+    let converted_reading = ahead c.read_original.new.self.converted (g.S.Source.left c.read_original.new.source 1) in
+    let report_reading = ahead c.read_original.new.self.report (g.S.Source.left c.read_original.new.source 2) in
+    let originals_checking = ahead c.check_next.new.readers.originals (g.S.Source.left c.check_next.new.source 0) in
+    let converted_checking = ahead c.check_next.new.readers.converted (g.S.Source.left c.check_next.new.source 1) in
+    let report_checking = ahead c.check_next.new.readers.report (g.S.Source.left c.check_next.new.source 2) in
+    let held_start : Held = held_by (g.K.Sink.held c.args.sink.now) (g.K.Sink.faults c.args.sink.now) in
+    let held_before : Held = held_by (g.K.Sink.held c.loop-original.sink) (g.K.Sink.faults c.loop-original.sink) in
+    let held_checking : Held = held_by (g.K.Sink.held c.check_next.new.sink) (g.K.Sink.faults c.check_next.new.sink) in
+    let given = given_of originals_before originals_reading c.in-Ok-Some.field-0 c.in-Ok-Some.original c.in-Ok-Some.field-0-is read.reads in
+    let converted_kept = ahead_kept c.loop-original.readers.converted c.read_original.new.self.converted (g.S.Source.left c.loop-original.source 1) (g.S.Source.left c.read_original.new.source 1) read.kept.0 (read.others 1 (λ x. omega arith)) in
+    let report_kept = ahead_kept c.loop-original.readers.report c.read_original.new.self.report (g.S.Source.left c.loop-original.source 2) (g.S.Source.left c.read_original.new.source 2) read.kept.1 (read.others 2 (λ x. omega arith)) in
+    let halted = halted_next c.in-Err-check_next.halt c.loop-original.number (c.loop-original.number + 1) c.loop-original.all_true originals_start converted_start report_start originals_before converted_before report_before originals_reading converted_reading report_reading converted_checking report_checking held_start held_before held_checking given.text inv.progress refl given.takes converted_kept report_kept (c.in-Err-check_next.ensures.stopped given.text given.reads) in halted.1
 
 pub returns-in-Err-check_next-clause-halts : goal.returns-in-Err-check_next-clause-halts
 returns-in-Err-check_next-clause-halts g c =
-    let T0 : ℕ → Told = told (g.S.Source.left c.args.source.now) (g.S.Source.faults c.args.source.now) (g.S.Source.taken c.args.source.now) (g.S.Source.ended c.args.source.now) in
-    let T1 : ℕ → Told = told (g.S.Source.left c.loop-original.source) (g.S.Source.faults c.loop-original.source) (g.S.Source.taken c.loop-original.source) (g.S.Source.ended c.loop-original.source) in
-    let T2 : ℕ → Told = told (g.S.Source.left c.read_original.new.source) (g.S.Source.faults c.read_original.new.source) (g.S.Source.taken c.read_original.new.source) (g.S.Source.ended c.read_original.new.source) in
-    let T3 : ℕ → Told = told (g.S.Source.left c.check_next.new.source) (g.S.Source.faults c.check_next.new.source) (g.S.Source.taken c.check_next.new.source) (g.S.Source.ended c.check_next.new.source) in
-    let H0 : Held = held_by (g.K.Sink.held c.args.sink.now) (g.K.Sink.faults c.args.sink.now) in
-    let H1 : Held = held_by (g.K.Sink.held c.loop-original.sink) (g.K.Sink.faults c.loop-original.sink) in
-    let H3 : Held = held_by (g.K.Sink.held c.check_next.new.sink) (g.K.Sink.faults c.check_next.new.sink) in
-    check_halts_later g.S.Source.LIMIT c.in-Err-check_next.halt c.args.readers.now c.read_original.new.self c.check_next.new.readers T0 T2 T3 H0 H1 H3
-    (advance_trans c.args.readers.now c.loop-original.readers c.read_original.new.self T0 T1 T2 c.loop-original.invariant.advance c.in-Ok-Some.ensures.advance) c.loop-original.invariant.written.later c.in-Err-check_next.ensures.halts
+    let told_start : ℕ → Told = told (g.S.Source.left c.args.source.now) (g.S.Source.faults c.args.source.now) (g.S.Source.taken c.args.source.now) (g.S.Source.ended c.args.source.now) in
+    let told_before : ℕ → Told = told (g.S.Source.left c.loop-original.source) (g.S.Source.faults c.loop-original.source) (g.S.Source.taken c.loop-original.source) (g.S.Source.ended c.loop-original.source) in
+    let told_reading : ℕ → Told = told (g.S.Source.left c.read_original.new.source) (g.S.Source.faults c.read_original.new.source) (g.S.Source.taken c.read_original.new.source) (g.S.Source.ended c.read_original.new.source) in
+    let told_checking : ℕ → Told = told (g.S.Source.left c.check_next.new.source) (g.S.Source.faults c.check_next.new.source) (g.S.Source.taken c.check_next.new.source) (g.S.Source.ended c.check_next.new.source) in
+    let held_start : Held = held_by (g.K.Sink.held c.args.sink.now) (g.K.Sink.faults c.args.sink.now) in
+    let held_before : Held = held_by (g.K.Sink.held c.loop-original.sink) (g.K.Sink.faults c.loop-original.sink) in
+    let held_checking : Held = held_by (g.K.Sink.held c.check_next.new.sink) (g.K.Sink.faults c.check_next.new.sink) in
+    check_halts_later g.S.Source.LIMIT c.in-Err-check_next.halt c.args.readers.now c.read_original.new.self c.check_next.new.readers told_start told_reading told_checking held_start held_before held_checking
+    (advance_trans c.args.readers.now c.loop-original.readers c.read_original.new.self told_start told_before told_reading c.loop-original.invariant.advance c.in-Ok-Some.ensures.advance) c.loop-original.invariant.written.later c.in-Err-check_next.ensures.halts
 
 pub returns-in-Err-check_next-clause-advance : goal.returns-in-Err-check_next-clause-advance
 returns-in-Err-check_next-clause-advance g c =
-    let T0 : ℕ → Told = told (g.S.Source.left c.args.source.now) (g.S.Source.faults c.args.source.now) (g.S.Source.taken c.args.source.now) (g.S.Source.ended c.args.source.now) in
-    let T1 : ℕ → Told = told (g.S.Source.left c.loop-original.source) (g.S.Source.faults c.loop-original.source) (g.S.Source.taken c.loop-original.source) (g.S.Source.ended c.loop-original.source) in
-    let T2 : ℕ → Told = told (g.S.Source.left c.read_original.new.source) (g.S.Source.faults c.read_original.new.source) (g.S.Source.taken c.read_original.new.source) (g.S.Source.ended c.read_original.new.source) in
-    let T3 : ℕ → Told = told (g.S.Source.left c.check_next.new.source) (g.S.Source.faults c.check_next.new.source) (g.S.Source.taken c.check_next.new.source) (g.S.Source.ended c.check_next.new.source) in
-    advance_trans c.args.readers.now c.read_original.new.self c.check_next.new.readers T0 T2 T3
-    (advance_trans c.args.readers.now c.loop-original.readers c.read_original.new.self T0 T1 T2 c.loop-original.invariant.advance c.in-Ok-Some.ensures.advance) c.in-Err-check_next.ensures.advance
+    let told_start : ℕ → Told = told (g.S.Source.left c.args.source.now) (g.S.Source.faults c.args.source.now) (g.S.Source.taken c.args.source.now) (g.S.Source.ended c.args.source.now) in
+    let told_before : ℕ → Told = told (g.S.Source.left c.loop-original.source) (g.S.Source.faults c.loop-original.source) (g.S.Source.taken c.loop-original.source) (g.S.Source.ended c.loop-original.source) in
+    let told_reading : ℕ → Told = told (g.S.Source.left c.read_original.new.source) (g.S.Source.faults c.read_original.new.source) (g.S.Source.taken c.read_original.new.source) (g.S.Source.ended c.read_original.new.source) in
+    let told_checking : ℕ → Told = told (g.S.Source.left c.check_next.new.source) (g.S.Source.faults c.check_next.new.source) (g.S.Source.taken c.check_next.new.source) (g.S.Source.ended c.check_next.new.source) in
+    advance_trans c.args.readers.now c.read_original.new.self c.check_next.new.readers told_start told_reading told_checking
+    (advance_trans c.args.readers.now c.loop-original.readers c.read_original.new.self told_start told_before told_reading c.loop-original.invariant.advance c.in-Ok-Some.ensures.advance) c.in-Err-check_next.ensures.advance

@@ -7,12 +7,12 @@ use Rattle.mc_report.proofs.front.numbers_front.Goals as goal
 pub returns-then-not-goes_on : goal.returns-then-not-goes_on
 returns-then-not-goes_on c =
     let text = c.args.text.now in
-    subst (λ (atoms : List AtomId). FindsList text (Some (atoms, text))) (sym c.new-atoms.ensures) (empty_found text (sym c.goes_on.ensures ∙ c.if-not-goes_on.true))
+    subst (λ (atoms : List AtomId). FindsList text (Some (atoms, text))) (sym c.new.ensures) (empty_found text (sym c.goes_on.ensures ∙ c.if-not-goes_on.true))
 
 pub loop-atom-init : goal.loop-atom-init
 loop-atom-init c =
     let text = c.args.text.now in
-    subst (λ (atoms : List AtomId). Reading text atoms text) (sym c.new-atoms.ensures) (start text (sym c.goes_on.ensures ∙ c.if-not-goes_on.false))
+    subst (λ (atoms : List AtomId). Reading text atoms text) (sym c.in_ok-atoms.ensures) (start text (sym c.goes_on.ensures ∙ c.if-not-goes_on.false))
 
 pub loop-atom-preserved : goal.loop-atom-preserved
 loop-atom-preserved c =
