@@ -6,7 +6,7 @@ use Rattle.mc_mol.specs.Molecule.{joins, are_joined}
 use Rattle.mc_mol.specs.Parts.{are_connected}
 use Rattle.mc_mol.proofs.Halves.{same_test}
 
-or_true : (p q : Bool) → (p || q) ≡ true → (p ≡ true) ⊎ (q ≡ true)
+pub or_true : (p q : Bool) → (p || q) ≡ true → (p ≡ true) ⊎ (q ≡ true)
 or_true true q is = inl refl
 or_true false q is = inr is
 
@@ -18,7 +18,7 @@ or_right : (p q : Bool) → q ≡ true → (p || q) ≡ true
 or_right true q is = refl
 or_right false q is = is
 
-and_true : (p q : Bool) → (p && q) ≡ true → (p ≡ true) × (q ≡ true)
+pub and_true : (p q : Bool) → (p && q) ≡ true → (p ≡ true) × (q ≡ true)
 and_true true true is = (refl, refl)
 and_true true false is = cc
 and_true false q is = cc
@@ -27,7 +27,7 @@ both_true : (p q : Bool) → p ≡ true → q ≡ true → (p && q) ≡ true
 both_true true q is also = also
 both_true false q is also = cc
 
-tested : (a b : ℕ) → (a == b) ≡ true → a ≡ b
+pub tested : (a b : ℕ) → (a == b) ≡ true → a ≡ b
 tested a b t = grind (arith, nat_tests)
 
 -- a path that leads from u to v

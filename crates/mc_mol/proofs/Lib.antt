@@ -1,4 +1,5 @@
 pub mod Lists
+pub mod ShortLists
 pub mod Halves
 pub mod Added
 pub mod Twins

@@ -6,3 +6,4 @@ pub mod HalfEdges
 pub mod Permutations
 pub mod Stored
 pub mod PartLabels
+pub mod ShortSlots

@@ -2,6 +2,7 @@
 #![tactic(auto)]
 
 mod adjacency;
+mod centres;
 mod independent;
 mod mol;
 mod parts;

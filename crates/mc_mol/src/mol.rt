@@ -2,6 +2,7 @@ ghost use Rattle.std.specs.Prelude.{◌≡◌, ◌==◌, IfOk, None, replicate};
 ghost use Rattle.std.specs.List.{list_any};
 
 use crate::adjacency::Adjacency;
+use crate::centres::Centres;
 use crate::{Atom, Bond, HalfEdge, Sides, Slot};
 use mc_base::{AtomId, BondId, NoMemory};
 use std::alloc::{AllocError, Global};
@@ -53,7 +54,7 @@ impl From<AllocError> for AddBond {
 pub struct Mol {
     atoms: Vec<Atom>,
     bonds: Vec<Bond>,
-    centres: Vec<Option<[Slot; 4]>>,
+    centres: Centres,
     sides: Vec<Option<Sides>>,
     adjacency: Adjacency,
 }
@@ -65,9 +66,9 @@ impl Model for Mol {
 
     ghost Value = { Molecule };
 
-    ghost view = { λ m. record { atoms = m.atoms.items; bonds = m.bonds.items; centres = m.centres.items; sides = m.sides.items } };
+    ghost view = { λ m. record { atoms = m.atoms.items; bonds = m.bonds.items; centres = m.centres; sides = m.sides.items } };
 
-    ghost invariant = { λ m. IsMolecule (record { atoms = m.atoms.items; bonds = m.bonds.items; centres = m.centres.items; sides = m.sides.items }) × HoldsHalfEdges (record { atoms = m.atoms.items; bonds = m.bonds.items; centres = m.centres.items; sides = m.sides.items }) m.adjacency.lists.items };
+    ghost invariant = { λ m. IsMolecule (record { atoms = m.atoms.items; bonds = m.bonds.items; centres = m.centres; sides = m.sides.items }) × HoldsHalfEdges (record { atoms = m.atoms.items; bonds = m.bonds.items; centres = m.centres; sides = m.sides.items }) m.adjacency.lists.items };
 }
 
 impl Mol {
@@ -84,7 +85,7 @@ impl Mol {
         Mol {
             atoms: Vec::new(alloc),
             bonds: Vec::new(alloc),
-            centres: Vec::new(alloc),
+            centres: Centres::new(alloc),
             sides: Vec::new(alloc),
             adjacency: Adjacency::new(alloc),
         }
@@ -99,7 +100,7 @@ impl Mol {
         ensures { IfOk result (λ mol. mol ≡ record { atoms = atoms.items; bonds = bonds.items; centres = replicate (length atoms.items) None; sides = replicate (length bonds.items) None }) }
     {
         let adjacency = Adjacency::of_bonds(alloc, atoms.len(), &bonds)?;
-        let centres = nones(alloc, atoms.len())?;
+        let centres = Centres::none(alloc, atoms.len())?;
         let sides = nones(alloc, bonds.len())?;
         Ok(Mol {
             atoms,
@@ -167,11 +168,10 @@ impl Mol {
             return Err(AddAtom::Limit);
         }
         self.atoms.reserve(1)?;
-        self.centres.reserve(1)?;
         self.adjacency.reserve_atom()?;
+        self.centres.push_none()?;
         let alloc = *self.atoms.allocator();
         self.atoms.push_reserved(atom);
-        self.centres.push_reserved(None);
         self.adjacency.push_atom(alloc);
         Ok(AtomId(count as u32))
     }
@@ -223,7 +223,7 @@ impl Mol {
         requires { a.0 < length self.now.atoms }
         ensures { slice_get self.now.centres a.0 ≡ Some result }
     {
-        self.centres[a.0 as usize]
+        self.centres.get(a.0 as usize)
     }
 
     /// The sides of a double bond whose geometry is specified, or none.
@@ -240,7 +240,7 @@ impl Mol {
         requires places { IsPlaceList self.old.bonds atom.0 places }
         ensures { self.new ≡ record self.old { centres = slice_set self.old.centres atom.0 (Some places) } }
     {
-        self.centres[atom.0 as usize] = Some(places);
+        self.centres.set(atom.0 as usize, places);
     }
 
     /// Gives a double bond its geometry.
@@ -263,7 +263,7 @@ impl Mol {
 }
 
 /// As many times none.
-fn nones<T: Copy>(alloc: Global, count: usize) -> Result<Vec<Option<T>>, AllocError>
+pub fn nones<T: Copy>(alloc: Global, count: usize) -> Result<Vec<Option<T>>, AllocError>
     ensures { IfOk result (λ list. list.items ≡ replicate count None) }
 {
     vec![in alloc; None; count]

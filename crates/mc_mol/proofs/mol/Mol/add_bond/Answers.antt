@@ -9,7 +9,7 @@ use Rattle.mc_mol.proofs.mol.Mol.add_bond.Goals as goal
 pub join-requires-clause-first_few : goal.join-requires-clause-first_few
 join-requires-clause-first_few c d =
     let inside = c.self.inside in
-    let m : Molecule = record { atoms = inside.atoms.items; bonds = inside.bonds.items; centres = inside.centres.items; sides = inside.sides.items } in
+    let m : Molecule = record { atoms = inside.atoms.items; bonds = inside.bonds.items; centres = inside.centres; sides = inside.sides.items } in
     let within : c.args.first.0 < length m.atoms = subst (λ (m : Molecule). c.args.first.0 < length m.atoms) (sym c.self.view_is) c.requires.first in
     let few = few_half_edges m inside.adjacency.lists.items c.self.invariant c.args.first.0 d within in
     let same = ap (λ (xs : List Half). length xs) (c.reserve_at-2.ensures.items c.args.first.0 d ∙ c.reserve_at.ensures.items c.args.first.0 d) in
@@ -18,7 +18,7 @@ join-requires-clause-first_few c d =
 pub join-requires-clause-second_few : goal.join-requires-clause-second_few
 join-requires-clause-second_few c d =
     let inside = c.self.inside in
-    let m : Molecule = record { atoms = inside.atoms.items; bonds = inside.bonds.items; centres = inside.centres.items; sides = inside.sides.items } in
+    let m : Molecule = record { atoms = inside.atoms.items; bonds = inside.bonds.items; centres = inside.centres; sides = inside.sides.items } in
     let within : c.args.second.0 < length m.atoms = subst (λ (m : Molecule). c.args.second.0 < length m.atoms) (sym c.self.view_is) c.requires.second in
     let few = few_half_edges m inside.adjacency.lists.items c.self.invariant c.args.second.0 d within in
     let same = ap (λ (xs : List Half). length xs) (c.reserve_at-2.ensures.items c.args.second.0 d ∙ c.reserve_at.ensures.items c.args.second.0 d) in
@@ -27,7 +27,7 @@ join-requires-clause-second_few c d =
 pub invariant_of-self-2 : goal.invariant_of-self-2
 invariant_of-self-2 c =
     let inside = c.self.inside in
-    let m : Molecule = record { atoms = inside.atoms.items; bonds = inside.bonds.items; centres = inside.centres.items; sides = inside.sides.items } in
+    let m : Molecule = record { atoms = inside.atoms.items; bonds = inside.bonds.items; centres = inside.centres; sides = inside.sides.items } in
     let bond : Bond = record { first = c.args.first; second = c.args.second; order = c.args.order } in
     let fits : IsBond (length m.atoms) bond = record {
       first = subst (λ (m : Molecule). c.args.first.0 < length m.atoms) (sym c.self.view_is) c.requires.first;
