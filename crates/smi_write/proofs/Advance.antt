@@ -313,11 +313,6 @@ less_left n al al' st st' u v more less e t =
     at_most true e = let l : length st' ≡ length (st ++ u ∷ []) = ap length e in let d = length_push st u in omega arith
     at_most false e = let l : length st' ≡ length st = ap length (e ∙ append-nil st) in omega arith
 
-pub one_less_left : (n k : ℕ) (st st' : List ℕ) (u : ℕ) (next : Option ℕ) → st ≡ st' ++ option_to_list next → 2 * (n - k) + length (st' ++ option_to_list next) < 2 * (n - k) + length (st ++ u ∷ [])
-one_less_left n k st st' u next e =
-    let a : length (st' ++ option_to_list next) ≡ length st = ap length (sym e) in
-    let d : length (st ++ u ∷ []) ≡ length st + 1 = length_push st u in omega arith
-
 -- At the beginning and at the end
 
 pub root_next : (m : Molecule) (al : List AtomId) (pl cl st : List ℕ) (root : ℕ) → HoldsSteps (graph_of m) (steps (graph_of m) (length al)) al pl cl (st ++ []) → st ≡ []

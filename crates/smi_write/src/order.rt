@@ -1,5 +1,5 @@
 //! The order in which the atoms of a molecule are written: a walk with a stack, which goes on behind the
-//! latest atom that has an unwritten neighbour.
+//! latest atom that has an unwritten neighbour. It finds by the way what the text asks for by place.
 
 ghost use Rattle.std.specs.List.{list_any};
 ghost use Rattle.std.specs.Prelude.{◌≡◌, ◌++◌, [], ◌∷◌, ◌+◌, ◌-◌, ◌^◌, ◌<◌, ◌≤◌, ℕ, All, OnOk, IfOk, length, slice_set, slice_index_or, None, option_to_list, if◌then◌else◌};
@@ -7,7 +7,6 @@ ghost use Rattle.mc_mol.specs.WellFormed.{IsMolecule};
 ghost use Rattle.smi_mean.specs.Order.{graph_of, steps};
 ghost use Rattle.smi_write.specs.Progress.{HoldsMarks, IsWalkWith, left};
 ghost use Rattle.smi_write.specs.WrittenOrder.{IsWrittenOrder};
-ghost use Rattle.smi_write.specs.Lesser.{lesser};
 ghost use Rattle.smi_write.specs.Seen.{Sees, leads_back, mark_all, nothing, see, see_all};
 
 use mc_base::{AtomId, BondId, NoMemory};
@@ -121,7 +120,7 @@ fn push_if(stack: &mut Vec<u32>, more: bool, atom: u32) -> Result<(), NoMemory>
     Ok(())
 }
 
-/// What is seen of the neighbours of an atom.
+/// What one pass over the half-edges of an atom says of its neighbours.
 #[derive(Clone, Copy)]
 struct Seen {
     /// whether there is an unwritten one
@@ -202,16 +201,6 @@ fn mark_if(
         if leads_back(place, parent, at) {
             opens[at as usize - 1] = true;
         }
-    }
-}
-
-/// The lesser of two numbers, of which the first may be missing.
-pub fn lesser(best: Option<u32>, n: u32) -> Option<u32>
-    ensures { result ≡ lesser best n }
-{
-    match best {
-        Some(b) if b <= n => Some(b),
-        _ => Some(n),
     }
 }
 

@@ -68,12 +68,7 @@ fn push_before(
         return push_unless(text, place == 0, b'.');
     }
     let later = last[parent as usize] > place;
-    push_bond(
-        text,
-        parent == place,
-        later,
-        written.orders[place as usize],
-    )
+    push_bond(text, parent == place, later, written.orders[place as usize])
 }
 
 /// An atom with what stands before it.
