@@ -15,3 +15,4 @@ pub mod HeldAtoms
 pub mod Together
 pub mod Ahead
 pub mod Closed
+pub mod Placing

@@ -9,8 +9,7 @@ use Rattle.smi_lex.specs.declared.token.Token.{Token}
 use Rattle.smi_graph.specs.declared.role.Role.{Role}
 use Rattle.smi_graph.specs.declared.role.Role.TheVariants.{Atom, Bond, Ring, Enter, Leave, Dot}
 use Rattle.smi_graph.specs.declared.order.Place.{Place}
-use Rattle.smi_graph.specs.declared.order.InOrder.{InOrder}
-use Rattle.smi_graph.specs.declared.order.InOrder.TheVariants.{UpTo, Broken}
+use Rattle.smi_graph.specs.declared.order.Order.{Order}
 use Rattle.smi_graph.specs.declared.builder.Builder.{Builder}
 use Rattle.smi_graph.specs.declared.structure.Structure.{Structure}
 use Rattle.smi_graph.specs.declared.reader.Reader.{Reader}
@@ -134,15 +133,17 @@ pub record Reads (b : Builder) (before : List Role) : Type 0 where
   pub returns : b.returns.items ≡ reverse (return_atoms before)
   pub ends : (n : ℕ) → get_or b.ends.items n None ≡ open_end n before
 
--- so many tokens, from the first on, stand in order; or one of them is the first that doesn't
-abbrev pub IsInOrder : List Role → ℕ → InOrder → Type 0
-IsInOrder ks i (UpTo place) = IsBehind place (tokens_before ks i) × NoneBelow (misplaced_at ks) i
-IsInOrder ks i (Broken first) = IsFirstOf (misplaced_at ks) i (Some first)
+-- so many tokens, from the first on, stand in order, up to this place; or one of them is the first that doesn't
+abbrev pub IsPlaced : List Role → ℕ → Place → Option ℕ → Type 0
+IsPlaced ks i place None = IsBehind place (tokens_before ks i) × NoneBelow (misplaced_at ks) i
+IsPlaced ks i place (Some first) = IsFirstOf (misplaced_at ks) i (Some first)
+
+abbrev pub IsInOrder : List Role → ℕ → Order → Type 0
+IsInOrder ks i order = IsPlaced ks i order.place order.misplaced
 
 -- so many tokens open no more branches than they are
-abbrev pub IsShallow : ℕ → InOrder → Type 0
-IsShallow i (UpTo place) = place.depth ≤ i
-IsShallow i (Broken first) = Unit {0}
+abbrev pub IsShallow : ℕ → Order → Type 0
+IsShallow i order = order.place.depth ≤ i
 
 -- the structure is that of the first tokens of these
 pub record Follows (ks : List Role) (s : Structure) : Type 0 where

@@ -1,7 +1,7 @@
-ghost use Rattle.std.specs.Prelude.{◌≡◌, ◌<◌, ◌≤◌, ◌^◌, ◌-◌, IfOk, IfSome, IfNone, length, slice_get};
+ghost use Rattle.std.specs.Prelude.{◌≡◌, ◌||◌, true, ◌<◌, ◌≤◌, ◌^◌, ◌-◌, IfOk, IfSome, IfNone, length, slice_get};
 ghost use Rattle.mc_mol.specs.Parts.{independent_rings};
 ghost use Rattle.smi_graph.specs.Faults.{IsFirstFault};
-ghost use Rattle.smi_graph.specs.Reading.{IsFirstOf};
+ghost use Rattle.smi_graph.specs.Reading.{IsFirstOf, NoneBelow};
 ghost use Rattle.smi_graph.specs.Rules.{fails, is_heavy, is_high_class, is_overcharged, ring_limit, BeyondAt};
 ghost use Rattle.smi_graph.specs.Skeletons.{AreBonds};
 
@@ -41,6 +41,29 @@ fn first_overcharged(atoms: &[SkelAtom]) -> Option<usize>
     atoms
         .iter()
         .position(|atom| atom.charge.unsigned_abs() > CHARGE_LIMIT)
+}
+
+/// Whether a value of an atom is beyond its limit.
+fn is_beyond(atom: SkelAtom) -> bool
+    ensures { result ≡ (is_heavy atom || (is_high_class atom || is_overcharged atom)) }
+{
+    atom.isotope as usize > LIMIT
+        || atom.class as usize > LIMIT
+        || atom.charge.unsigned_abs() > CHARGE_LIMIT
+}
+
+/// Whether all values of these atoms are within their limits, as those of nearly all texts are.
+fn are_within(atoms: &[SkelAtom]) -> bool
+    ensures isotopes { result ≡ true → NoneBelow (λ k. fails is_heavy (slice_get atoms.now k)) (length atoms.now) }
+    ensures classes { result ≡ true → NoneBelow (λ k. fails is_high_class (slice_get atoms.now k)) (length atoms.now) }
+    ensures charges { result ≡ true → NoneBelow (λ k. fails is_overcharged (slice_get atoms.now k)) (length atoms.now) }
+{
+    for atom in atoms {
+        if is_beyond(*atom) {
+            return false;
+        }
+    }
+    true
 }
 
 /// The number of independent rings where it is above the limit.
@@ -91,6 +114,9 @@ pub fn limit_fault(
             kind: Kind::LimitRings,
             place: rings,
         }));
+    }
+    if are_within(atoms) {
+        return Ok(None);
     }
     if let Some(k) = first_heavy(atoms) {
         return Ok(Some(Fault {

@@ -162,40 +162,40 @@ fn may_end(previous: Option<Role>) -> bool
 
 /// How the tokens so far stand.
 #[derive(Clone, Copy)]
-pub enum InOrder {
-    /// each of them may stand where it does; this is the place behind them
-    UpTo(Place),
-    /// the token of this number, from 0, is the first that may not
-    Broken(u32),
+pub struct Order {
+    /// the place behind them, where none is misplaced
+    place: Place,
+    /// the number, from 0, of the first token that may not stand where it does
+    misplaced: Option<u32>,
 }
 
-impl InOrder {
+impl Order {
     ghost use Rattle.std.specs.Prelude.{◌≡◌, ◌+◌, ◌^◌, ◌<◌, ℕ, List, length, get_or, true, false};
     ghost use Rattle.smi_graph.specs.declared.role.Role.{Role};
     ghost use Rattle.smi_graph.specs.Order.{latest, misplaced_at, tokens_before, unclosed_at};
     ghost use Rattle.smi_graph.specs.Reading.{IsFirstOf, IsInOrder, IsShallow};
 
     /// No tokens.
-    pub fn start() -> InOrder
+    pub fn start() -> Order
         ensures order { (ks : List Role) → IsInOrder ks 0 result }
         ensures shallow { IsShallow 0 result }
     {
-        InOrder::UpTo(Place::start())
+        Order {
+            place: Place::start(),
+            misplaced: None,
+        }
     }
 
     /// One more token, of number i, behind the previous one.
     #[inline(always)]
-    pub fn behind(self, previous: Option<Role>, role: Role, i: u32) -> InOrder
-        requires { IsShallow i self }
-        ensures order { (ks : List Role) (d : Role) → i < length ks → get_or ks i d ≡ role → previous ≡ latest (tokens_before ks i) → IsInOrder ks i self → IsInOrder ks (i + 1) result }
-        ensures shallow { IsShallow (i + 1) result }
+    pub fn read(&mut self, previous: Option<Role>, role: Role, i: u32)
+        requires { IsShallow i self.old }
+        ensures order { (ks : List Role) (d : Role) → i < length ks → get_or ks i d ≡ role → previous ≡ latest (tokens_before ks i) → IsInOrder ks i self.old → IsInOrder ks (i + 1) self.new }
+        ensures shallow { IsShallow (i + 1) self.new }
     {
-        match self {
-            InOrder::UpTo(place) => match place.behind(previous, role) {
-                Some(next) => InOrder::UpTo(next),
-                None => InOrder::Broken(i),
-            },
-            InOrder::Broken(first) => InOrder::Broken(first),
+        match self.place.behind(previous, role) {
+            Some(next) => self.place = next,
+            None => self.misplaced = Some(self.misplaced.unwrap_or(i)),
         }
     }
 
@@ -203,9 +203,9 @@ impl InOrder {
     pub fn first_misplaced(self, previous: Option<Role>, count: u32) -> Option<u32>
         ensures { (ks : List Role) → count ≡ length ks → previous ≡ latest (tokens_before ks count) → IsInOrder ks count self → IsFirstOf (misplaced_at ks) (length ks + 1) result }
     {
-        match self {
-            InOrder::UpTo(_) => { if may_end(previous) { None } else { Some(count) } }
-            InOrder::Broken(first) => Some(first),
+        match self.misplaced {
+            Some(first) => Some(first),
+            None => { if may_end(previous) { None } else { Some(count) } }
         }
     }
 
@@ -213,9 +213,9 @@ impl InOrder {
     pub fn is_closed(self) -> bool
         ensures { (ks : List Role) → result ≡ true → IsInOrder ks (length ks) self → (i : ℕ) → unclosed_at ks i ≡ false }
     {
-        match self {
-            InOrder::UpTo(place) => place.depth == 0,
-            InOrder::Broken(_) => false,
+        match self.misplaced {
+            Some(_) => false,
+            None => self.place.depth == 0,
         }
     }
 }

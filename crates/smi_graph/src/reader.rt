@@ -15,7 +15,7 @@ use std::alloc::{AllocError, Global};
 fn both(first: bool, second: bool) -> bool
     ensures { result ≡ (first && second) }
 {
-    first && second
+    first & second
 }
 
 /// What is read of the tokens so far, each of which is looked at once: their atoms and what they do.

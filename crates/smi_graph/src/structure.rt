@@ -5,7 +5,7 @@ ghost use Rattle.smi_graph.specs.Reading.{IsFirstOf, IsFirstEnd, Reads, lesser};
 
 use crate::builder::Builder;
 use crate::fault::Fault;
-use crate::order::{InOrder, first_unclosed};
+use crate::order::{Order, first_unclosed};
 use crate::tokens::roles_of;
 use crate::{RingEnd, Role};
 use mc_base::Kind;
@@ -65,7 +65,7 @@ fn first_open(ends: &[Option<RingEnd>]) -> Option<u32>
 #[derive(Drop)]
 pub struct Structure {
     builder: Builder,
-    order: InOrder,
+    order: Order,
     /// the first closing number whose symbol clashes
     clash: Option<u32>,
     /// the first closing number that joins what is joined already
@@ -88,7 +88,7 @@ impl Structure {
     {
         Ok(Structure {
             builder: Builder::with_room(alloc, bonds)?,
-            order: InOrder::start(),
+            order: Order::start(),
             clash: None,
             pair: None,
         })
@@ -104,9 +104,7 @@ impl Structure {
         ensures tokens { OnOk result (self.new.builder.tokens ≡ self.old.builder.tokens + 1) }
     {
         let previous = self.builder.latest();
-        self.order = self
-            .order
-            .behind(previous, role, self.builder.token_count());
+        self.order.read(previous, role, self.builder.token_count());
         self.clash = clash_or_here(self.clash, &self.builder, role);
         self.pair = pair_or_here(self.pair, &self.builder, role);
         self.builder.read(role)?;

@@ -61,6 +61,7 @@ fn byte_kind(byte: u8) -> Option<TokenKind>
 }
 
 /// The ring number behind `%`.
+#[inline(always)]
 fn two_digits(text: &[u8]) -> Option<(TokenKind, &[u8])>
     ensures { front_view result ≡ two_digits text.now }
 {
@@ -93,7 +94,11 @@ pub fn token_front(text: &[u8]) -> Option<(TokenKind, &[u8])>
     match text {
         [b'C', rest @ ..] => Some(one_or_two_letters(rest, b'l', Element::Cl, Element::C)),
         [b'B', rest @ ..] => Some(one_or_two_letters(rest, b'r', Element::Br, Element::B)),
-        [b'[', rest @ ..] => bracket_front(rest),
+        // Taken apart, so that the tokens of a byte stay in registers.
+        [b'[', rest @ ..] => match bracket_front(rest) {
+            Some((kind, behind)) => Some((kind, behind)),
+            None => None,
+        },
         [b'%', rest @ ..] => two_digits(rest),
         [byte, rest @ ..] => {
             let kind = byte_kind(*byte)?;

@@ -14,12 +14,12 @@ returns-clause-follows c = λ ks d less is follows.
     let before : List Role = tokens_before ks i in
     let here : slice_get ks i ≡ Some c.args.role = slice_get-get_or ks i d less ∙ ap (λ (k : Role). Some k) is in
     let more = sym c.in_ok-read.ensures.tokens in
-    let order = rw c.token_count.ensures at c.behind-self.ensures.order in
+    let order = rw c.token_count.ensures at c.read.ensures.order in
     record {
-      reads = subst (λ (x : List Role). Reads c.read.new.self x)
+      reads = subst (λ (x : List Role). Reads c.read-2.new.self x)
           (sym (tokens_before_more ks i d less ∙ ap (λ (k : Role). k ∷ before) is) ∙ ap (tokens_before ks) more)
           (c.in_ok-read.ensures.reads before follows.reads);
-      order = subst (λ (n : ℕ). IsInOrder ks n c.behind-self.result) more (order ks d less is (c.latest-previous.ensures ∙ follows.reads.latest) follows.order);
+      order = subst (λ (n : ℕ). IsInOrder ks n c.read.new.self) more (order ks d less is (c.latest-previous.ensures ∙ follows.reads.latest) follows.order);
       clash = subst (λ (n : ℕ). IsFirstOf (clash_at ks) n c.clash_or_here-self.result) more
           (c.clash_or_here-self.ensures (clash_at ks) before follows.reads follows.clash (ap (is_clash before) here));
       pair = subst (λ (n : ℕ). IsFirstOf (pair_again_at ks) n c.pair_or_here-self.result) more
