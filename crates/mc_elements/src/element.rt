@@ -141,7 +141,6 @@ impl Element {
     }
 
     /// The symbol, one or two ASCII letters.
-    #[inline(always)]
     pub fn symbol(self) -> &'static [u8]
         ensures { result.now ≡ symbol self }
     {

@@ -6,7 +6,6 @@ use crate::Element;
 
 /// The normal valences of a bare atom, rising; empty where the element is never bare.
 /// (OpenSMILES 1.0, section 3.1.5)
-#[inline(always)]
 pub fn smiles_valences(element: Element) -> &'static [u8]
     ensures value { result.now ≡ smiles_valences element }
     ensures rising { IsStrictlyIncreasing result.now }
@@ -60,7 +59,6 @@ pub fn ct_valences(element: Element, charge: i8) -> &'static [u8]
 
 /// The hydrogens that fill up a sum of bond orders to a valence of the list; 0 where the sum is
 /// above them all.
-#[inline(always)]
 pub fn implied(list: &[u8], sum: u8) -> u8
     requires { IsStrictlyIncreasing list.now }
     ensures filled { (valence : ℕ) → IsLeastValence list.now sum valence → result ≡ valence - sum }

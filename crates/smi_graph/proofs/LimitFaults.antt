@@ -1,6 +1,7 @@
 -- The first limit that a text exceeds.
-use Rattle.std.proofs.Common.{arith, ◌≡◌, ℕ, zero, suc, ◌+◌, ◌≤◌, ◌<◌, List, length, Bool, true, false, Some, None, refl, ap, inl, inr}
-use Rattle.std.specs.Prelude.{slice_get, if◌then◌else◌}
+use Rattle.std.proofs.Common.{arith, ◌≡◌, ℕ, zero, suc, ◌+◌, ◌≤◌, ◌<◌, List, [], ◌∷◌, length, Bool, true, false, Some, None, refl, ap, inl, inr}
+use Rattle.std.specs.List.{list_all}
+use Rattle.std.specs.Prelude.{slice_get, not, ◌&&◌, ◌||◌, if◌then◌else◌}
 use Rattle.std.proofs.lemmas.Bool.{cases_lt}
 use Rattle.mc_base.specs.declared.kind.Kind.{Kind}
 use Rattle.mc_base.specs.declared.kind.Kind.TheVariants.{LimitAtoms, LimitBonds, LimitRings, LimitIsotope, LimitClass, LimitCharge}
@@ -8,7 +9,7 @@ use Rattle.mc_base.specs.Kinds.{number}
 use Rattle.mc_mol.specs.declared.parts.Bond as bond
 use Rattle.mc_mol.specs.Parts.{count_below, independent_rings}
 use Rattle.smi_graph.specs.declared.skeleton.SkelAtom.{SkelAtom}
-use Rattle.smi_graph.specs.Reading.{IsFirstOf}
+use Rattle.smi_graph.specs.Reading.{IsFirstOf, is_light}
 use Rattle.smi_graph.specs.Rules.{limit, ring_limit, fails, is_heavy, is_high_class, is_overcharged, IsAbove, AtomFails, BeyondAt}
 use Rattle.smi_graph.specs.Faults.{IsFirstFault}
 use Rattle.smi_graph.proofs.TokenFaults.{not_both, past}
@@ -150,3 +151,44 @@ shows_no_limit all bs a b c d e f LimitIsotope place w = no_atom all is_heavy pl
 shows_no_limit all bs a b c d e f LimitClass place w = no_atom all is_high_class place e w
 shows_no_limit all bs a b c d e f LimitCharge place w = no_atom all is_overcharged place f w
 shows_no_limit all bs a b c d e f _ place w = w
+
+-- the values of all atoms are within their limits
+pub record AreLight (all : List SkelAtom) : Type 0 where
+  pub isotopes : IsFirstOf (λ k. fails is_heavy (slice_get all k)) (length all) None
+  pub classes : IsFirstOf (λ k. fails is_high_class (slice_get all k)) (length all) None
+  pub charges : IsFirstOf (λ k. fails is_overcharged (slice_get all k)) (length all) None
+
+none_of : (p : SkelAtom → Bool) → ((atom : SkelAtom) → is_light atom ≡ true → p atom ≡ false) → (all : List SkelAtom) → list_all is_light all ≡ true → (k : ℕ) → k < length all → fails p (slice_get all k) ≡ false
+none_of p light [] each k less = absurd (omega arith)
+none_of p light (atom ∷ all) each zero less = light atom (first (is_light atom) (list_all is_light all) each)
+  where
+    first : (t u : Bool) → (t && u) ≡ true → t ≡ true
+    first true u h = refl
+    first false u h = h
+none_of p light (atom ∷ all) each (suc k) less = none_of p light all (later (is_light atom) (list_all is_light all) each) k (omega arith)
+  where
+    later : (t u : Bool) → (t && u) ≡ true → u ≡ true
+    later true u h = h
+    later false u h = cc
+
+pub all_light : (all : List SkelAtom) → list_all is_light all ≡ true → AreLight all
+all_light all each = record {
+  isotopes = none_of is_heavy (λ atom h. first (is_heavy atom) (is_high_class atom || is_overcharged atom) h) all each;
+  classes = none_of is_high_class (λ atom h. middle (is_heavy atom) (is_high_class atom) (is_overcharged atom) h) all each;
+  charges = none_of is_overcharged (λ atom h. last (is_heavy atom) (is_high_class atom) (is_overcharged atom) h) all each;
+}
+  where
+    first : (t u : Bool) → not (t || u) ≡ true → t ≡ false
+    first true u h = cc
+    first false u h = refl
+
+    middle : (t u v : Bool) → not (t || (u || v)) ≡ true → u ≡ false
+    middle true u v h = cc
+    middle false true v h = cc
+    middle false false v h = refl
+
+    last : (t u v : Bool) → not (t || (u || v)) ≡ true → v ≡ false
+    last true u v h = cc
+    last false true v h = cc
+    last false false true h = cc
+    last false false false h = refl

@@ -1,6 +1,6 @@
 -- What a reader keeps of the tokens so far.
 use Rattle.std.specs.List.{list_all}
-use Rattle.std.specs.Prelude.{◌≡◌, ◌<◌, ◌≤◌, ◌+◌, ◌-◌, ℕ, zero, suc, Bool, true, false, List, [], ◌∷◌, Option, Some, None, get_or, length, map, reverse, take, drop, min, nat_lt, All, AllPairs, if◌then◌else◌}
+use Rattle.std.specs.Prelude.{◌≡◌, ◌<◌, ◌≤◌, ◌+◌, ◌-◌, ℕ, zero, suc, Bool, true, false, List, [], ◌∷◌, Option, Some, None, get_or, length, map, reverse, take, drop, min, nat_lt, All, AllPairs, not, ◌||◌, if◌then◌else◌}
 use Rattle.mc_mol.specs.declared.parts.Bond as bond
 use Rattle.smi_graph.specs.declared.skeleton.SkelAtom.{SkelAtom}
 use Rattle.smi_graph.specs.declared.ring_end.RingEnd.{RingEnd}
@@ -17,7 +17,7 @@ use Rattle.smi_graph.specs.RingRules.{clash_at, pair_again_at}
 use Rattle.smi_graph.specs.Order.{latest, is_stray_bond, depth, tokens_before, misplaced_at}
 use Rattle.smi_graph.specs.Bonds.{atom_count, open_end, bonds_of}
 use Rattle.smi_graph.specs.Roles.{roles, atoms_of}
-use Rattle.smi_graph.specs.Rules.{is_built_kind}
+use Rattle.smi_graph.specs.Rules.{is_built_kind, is_heavy, is_high_class, is_overcharged}
 
 -- the place is the one behind these tokens, the latest first
 pub record IsBehind (place : Place) (before : List Role) : Type 0 where
@@ -123,6 +123,10 @@ pub record RisesTo (atom : ℕ) (bonds : List bond.Bond) : Type 0 where
 abbrev pub held_atom : SkelAtom → SkelAtom
 held_atom atom = record atom { isotope = min atom.isotope 65535; class = min atom.class 65535 }
 
+-- the values of an atom are within their limits
+abbrev pub is_light : SkelAtom → Bool
+is_light atom = not (is_heavy atom || (is_high_class atom || is_overcharged atom))
+
 -- The builder has the bonds of these tokens, the latest first, and where each ring number is open.
 pub record Reads (b : Builder) (before : List Role) : Type 0 where
   pub bonds : b.bonds.items ≡ bonds_of before
@@ -161,5 +165,6 @@ pub record IsBounded (s : Structure) : Type 0 where
 pub record HasRead (ts : List Token) (r : Reader) : Type 0 where
   pub within : r.structure.builder.tokens ≤ length ts
   pub atoms : r.atoms.items ≡ map held_atom (atoms_of (take r.structure.builder.tokens ts))
+  pub light : r.all_light ≡ list_all is_light r.atoms.items
   pub built : r.all_built ≡ list_all (λ token. is_built_kind token.kind) (take r.structure.builder.tokens ts)
   pub follows : Follows (roles ts) r.structure

@@ -1,7 +1,10 @@
-ghost use Rattle.std.specs.Prelude.{◌≡◌, ◌||◌, true, ◌<◌, ◌≤◌, ◌^◌, ◌-◌, IfOk, IfSome, IfNone, length, slice_get};
+ghost use Rattle.std.specs.List.{list_all};
+ghost use Rattle.std.specs.Prelude.{◌≡◌, map, ◌<◌, ◌≤◌, ◌^◌, ◌-◌, IfOk, IfSome, IfNone, length, slice_get};
+ghost use Rattle.mc_base.specs.declared.span.Span.{Span as Part};
 ghost use Rattle.mc_mol.specs.Parts.{independent_rings};
 ghost use Rattle.smi_graph.specs.Faults.{IsFirstFault};
-ghost use Rattle.smi_graph.specs.Reading.{IsFirstOf, NoneBelow};
+ghost use Rattle.smi_graph.specs.Reading.{IsFirstOf, held_atom, is_light};
+ghost use Rattle.smi_graph.specs.Roles.{atom_of};
 ghost use Rattle.smi_graph.specs.Rules.{fails, is_heavy, is_high_class, is_overcharged, ring_limit, BeyondAt};
 ghost use Rattle.smi_graph.specs.Skeletons.{AreBonds};
 
@@ -9,6 +12,7 @@ use crate::SkelAtom;
 use crate::fault::Fault;
 use mc_base::Kind;
 use mc_mol::{Bond, independent_rings};
+use smi_lex::TokenKind;
 use std::alloc::{AllocError, Global};
 
 /// The greatest number of atoms and of bonds, the greatest isotope and the greatest class.
@@ -43,27 +47,27 @@ fn first_overcharged(atoms: &[SkelAtom]) -> Option<usize>
         .position(|atom| atom.charge.unsigned_abs() > CHARGE_LIMIT)
 }
 
-/// Whether a value of an atom is beyond its limit.
-fn is_beyond(atom: SkelAtom) -> bool
-    ensures { result ≡ (is_heavy atom || (is_high_class atom || is_overcharged atom)) }
+/// Whether the values of the atom that a token is are within their limits.
+#[inline(always)]
+pub fn is_within(kind: TokenKind) -> bool
+    ensures { (span : Part) → result ≡ list_all is_light (map held_atom (atom_of kind span)) }
 {
-    atom.isotope as usize > LIMIT
-        || atom.class as usize > LIMIT
-        || atom.charge.unsigned_abs() > CHARGE_LIMIT
-}
-
-/// Whether all values of these atoms are within their limits, as those of nearly all texts are.
-fn are_within(atoms: &[SkelAtom]) -> bool
-    ensures isotopes { result ≡ true → NoneBelow (λ k. fails is_heavy (slice_get atoms.now k)) (length atoms.now) }
-    ensures classes { result ≡ true → NoneBelow (λ k. fails is_high_class (slice_get atoms.now k)) (length atoms.now) }
-    ensures charges { result ≡ true → NoneBelow (λ k. fails is_overcharged (slice_get atoms.now k)) (length atoms.now) }
-{
-    for atom in atoms {
-        if is_beyond(*atom) {
-            return false;
-        }
+    match kind {
+        TokenKind::Bracket {
+            isotope,
+            charge,
+            class,
+            ..
+        } => isotope <= LIMIT as u32
+            && class <= LIMIT as u32
+            && charge.unsigned_abs() <= CHARGE_LIMIT,
+        TokenKind::Bare { .. }
+        | TokenKind::Bond(_)
+        | TokenKind::Ring(_)
+        | TokenKind::Enter
+        | TokenKind::Leave
+        | TokenKind::Dot => true,
     }
-    true
 }
 
 /// The number of independent rings where it is above the limit.
@@ -86,15 +90,18 @@ fn rings_above(alloc: Global, atoms: &[SkelAtom], bonds: &[Bond]) -> Result<Opti
     }
 }
 
-/// The first limit that these atoms and bonds exceed; its place is the number, or an atom from 1.
+/// The first limit that these atoms and bonds exceed; its place is the number, or an atom from 1. `are_within`
+/// says that the values of all atoms are within theirs, as those of nearly all texts are.
 pub fn limit_fault(
     alloc: Global,
     atoms: &[SkelAtom],
     bonds: &[Bond],
+    are_within: bool,
 ) -> Result<Option<Fault>, AllocError>
     requires sound { AreBonds (length atoms.now) bonds.now }
     requires few_atoms { length atoms.now < 2 ^ 32 - 1 }
     requires few_bonds { length bonds.now < 2 ^ 32 - 1 }
+    requires within { are_within ≡ list_all is_light atoms.now }
     ensures { IfOk result (IsFirstFault (BeyondAt atoms.now bonds.now)) }
 {
     if atoms.len() > LIMIT {
@@ -115,7 +122,7 @@ pub fn limit_fault(
             place: rings,
         }));
     }
-    if are_within(atoms) {
+    if are_within {
         return Ok(None);
     }
     if let Some(k) = first_heavy(atoms) {

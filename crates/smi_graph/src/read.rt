@@ -25,7 +25,12 @@ pub fn read_skeleton(alloc: Global, text: &[u8]) -> Result<Skeleton, Stop>
         let place = byte_place(text, fault.place);
         return Err(Stop::Refused(Refusal::at(alloc, fault.kind, place)));
     }
-    if let Some(fault) = limit_fault(alloc, &reader.atoms, reader.structure.bonds())? {
+    if let Some(fault) = limit_fault(
+        alloc,
+        &reader.atoms,
+        reader.structure.bonds(),
+        reader.all_light,
+    )? {
         return Err(Stop::Refused(Refusal::at(alloc, fault.kind, fault.place)));
     }
     Ok(Skeleton::new(reader.atoms, reader.structure.into_bonds()))

@@ -3,6 +3,7 @@ ghost use Rattle.smi_lex.specs.Tokens.{tokens, unread};
 ghost use Rattle.smi_graph.specs.Reading.{HasRead, IsBounded};
 ghost use Rattle.smi_graph.specs.Skeletons.{IsBroken};
 
+use crate::limits::is_within;
 use crate::skeleton::push_atom;
 use crate::structure::Structure;
 use crate::tokens::is_built_kind;
@@ -23,6 +24,8 @@ fn both(first: bool, second: bool) -> bool
 pub struct Reader {
     pub atoms: Vec<SkelAtom>,
     pub structure: Structure,
+    /// whether the values of all atoms are within their limits
+    pub all_light: bool,
     /// whether all of them are read today
     pub all_built: bool,
 }
@@ -40,8 +43,10 @@ impl Reader {
         ensures tokens { IfOk result (λ reader. reader.structure.builder.tokens ≡ 0) }
     {
         Ok(Reader {
-            atoms: Vec::with_capacity(alloc, bytes)?,
+            // Most texts have fewer atoms; one that has more takes more room as it is read.
+            atoms: Vec::with_capacity(alloc, bytes - bytes / 4)?,
             structure: Structure::with_room(alloc, bytes)?,
+            all_light: true,
             all_built: true,
         })
     }
@@ -56,6 +61,7 @@ impl Reader {
         ensures bounded { OnOk result (IsBounded self.new.structure) }
         ensures tokens { OnOk result (self.new.structure.builder.tokens ≡ self.old.structure.builder.tokens + 1) }
     {
+        self.all_light = both(self.all_light, is_within(token.kind));
         self.all_built = both(self.all_built, is_built_kind(token.kind));
         push_atom(&mut self.atoms, token.kind, token.span)?;
         self.structure.read(role)?;

@@ -6,10 +6,10 @@ ghost use Rattle.smi_mean.specs.Rules.{SmilesStands, IsRefused};
 ghost use Rattle.smi_mean.specs.Sound.{IsSound};
 
 use crate::atoms::atoms_with;
-use crate::faults::{first_hydrogen_on_hydrogen, first_overvalent};
+use crate::faults::atom_refusal;
 use crate::line::text_end;
 use crate::molecule::molecule;
-use mc_base::{Kind, Refusal, Span, Stop};
+use mc_base::{Span, Stop};
 use mc_mol::{Mol, bond_sums};
 use smi_graph::{Skeleton, read_skeleton};
 use std::alloc::Global;
@@ -47,11 +47,8 @@ fn mean(alloc: Global, skeleton: &Skeleton) -> Result<Mol, Stop>
     let bonds = skeleton.bonds();
     let sums = bond_sums(alloc, bonds, skeleton.atoms().len())?;
     let atoms = atoms_with(alloc, bonds, &sums, skeleton.atoms())?;
-    if let Some(k) = first_overvalent(&atoms, bonds, &sums) {
-        return Err(Stop::Refused(Refusal::at(alloc, Kind::LimitValence, k as u32 + 1)));
-    }
-    if let Some(k) = first_hydrogen_on_hydrogen(&atoms) {
-        return Err(Stop::Refused(Refusal::at(alloc, Kind::HydrogenOnHydrogen, k as u32 + 1)));
+    if let Some(refusal) = atom_refusal(alloc, &atoms, bonds, &sums) {
+        return Err(Stop::Refused(refusal));
     }
     let mol = molecule(alloc, atoms, bonds)?;
     Ok(mol)

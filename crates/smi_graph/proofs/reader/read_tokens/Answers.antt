@@ -7,6 +7,20 @@ use Rattle.smi_graph.proofs.Lifting.{shows_stop}
 use Rattle.smi_graph.proofs.Places.{moves_on}
 use Rattle.smi_graph.proofs.reader.read_tokens.Goals as goal
 
+pub loop-token-init : goal.loop-token-init
+loop-token-init c =
+    let at : c.new-lexer.result.at ≡ 0 = ap (λ (cursor : Cursor). cursor.at) c.new-lexer.ensures in
+    let none = c.in_ok-reader.ensures.tokens in
+    record {
+      text = ap (λ (cursor : Cursor). cursor.text) c.new-lexer.ensures;
+      inside = omega arith;
+      ahead = ap (λ (n : ℕ). tokens_from n 0 (drop n c.args.text.now)) at ∙ sym (ap (λ (n : ℕ). drop n (tokens c.args.text.now)) none);
+      rest = ap (λ (n : ℕ). unread (drop n c.args.text.now)) at;
+      few = omega arith;
+      has = c.in_ok-reader.ensures.has (tokens c.args.text.now);
+      bounded = c.in_ok-reader.ensures.bounded;
+    }
+
 pub loop-token-preserved : goal.loop-token-preserved
 loop-token-preserved c =
     let (stands, moved) = c.in-Token.ensures.token in

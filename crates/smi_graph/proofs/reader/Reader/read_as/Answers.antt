@@ -2,11 +2,12 @@ use Rattle.std.proofs.Common.{arith, ◌≡◌, ◌∙◌, ◌∷◌, ◌++◌, 
 use Rattle.std.specs.List.{list_all}
 use Rattle.std.specs.Prelude.{◌&&◌, Bool}
 use Rattle.std.proofs.lemmas.List.{length-map}
+use Rattle.std.proofs.lemmas.List.Folds.{list_all-append}
 use Rattle.smi_lex.specs.declared.token.Token.{Token}
 use Rattle.smi_graph.specs.declared.role.Role.{Role}
 use Rattle.smi_graph.specs.declared.skeleton.SkelAtom.{SkelAtom}
 use Rattle.smi_graph.specs.Roles.{role_of, roles, atom_of, atoms_of}
-use Rattle.smi_graph.specs.Reading.{held_atom}
+use Rattle.smi_graph.specs.Reading.{held_atom, is_light}
 use Rattle.smi_graph.specs.Rules.{is_built_kind}
 use Rattle.smi_graph.proofs.Ahead.{next_of, take_next, map_here, all_more, held_more}
 use Rattle.smi_graph.proofs.reader.Reader.read_as.Goals as goal
@@ -23,7 +24,9 @@ returns-clause-has c = λ ts later ahead has.
       within = omega arith;
       atoms = c.in_ok-push_atom.ensures ∙ (ap (λ (x : List SkelAtom). x ++ map held_atom (atom_of c.args.token.kind c.args.token.span)) has.atoms
           ∙ (sym (held_more (take i ts) c.args.token) ∙ ap (λ (x : List Token). map held_atom (atoms_of x)) (sym taken)));
-      built = c.both-self.ensures ∙ (rw (has.built, c.is_built_kind.ensures) refl
+      light = c.both-self.ensures ∙ (rw (has.light, c.is_within.ensures c.args.token.span) refl
+          ∙ (sym (list_all-append is_light c.args.self.now.atoms.items (map held_atom (atom_of c.args.token.kind c.args.token.span))) ∙ ap (list_all is_light) (sym c.in_ok-push_atom.ensures)));
+      built = c.both-self-2.ensures ∙ (rw (has.built, c.is_built_kind.ensures) refl
           ∙ (sym (all_more (λ (token : Token). is_built_kind token.kind) (take i ts) c.args.token) ∙ ap (list_all (λ (token : Token). is_built_kind token.kind)) (sym taken)));
       follows = c.in_ok-read.ensures.follows (roles ts) c.args.role (omega arith)
           (map_here (λ (token : Token). role_of token.kind) ts i c.args.role c.args.token within ∙ (ap (λ (t : Token). role_of t.kind) (next.here c.args.token) ∙ sym c.requires.role)) has.follows;

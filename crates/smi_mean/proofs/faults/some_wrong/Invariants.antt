@@ -1,0 +1,10 @@
+use Rattle.smi_graph.specs.Reading.{NoneBelow}
+use Rattle.smi_mean.specs.Meaning.{without_stereo}
+use Rattle.smi_mean.specs.Rules.{overvalent_at, hydrogen_on_hydrogen_at}
+use Rattle.smi_mean.proofs.faults.some_wrong.Given as goal
+
+abbrev pub invariant-loop-k : goal.invariant-loop-k
+invariant-loop-k l = record {
+  valences : NoneBelow (overvalent_at (without_stereo l.atoms l.bonds)) l.k;
+  hydrogens : NoneBelow (hydrogen_on_hydrogen_at (without_stereo l.atoms l.bonds)) l.k;
+}
