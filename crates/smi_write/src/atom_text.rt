@@ -7,21 +7,10 @@ ghost use Rattle.smi_lex.specs.declared.token.TokenKind.TheVariants.{Bracket};
 ghost use Rattle.smi_lex.specs.Grammar.{may_be_bare};
 ghost use Rattle.smi_mean.specs.Written.{is_bare, token_of, spelling, isotope_text, hydrogens_text, charge_text, class_text, ring_text, mark_tokens, symbol_of};
 
-use itoa::Buffer;
 use mc_base::{NoMemory, Text};
+use mc_digits::put_number;
 use mc_elements::{Element, implied, smiles_valences};
 use mc_mol::Atom;
-
-/// A number; most have one digit.
-fn push_number(text: &mut Text, n: u64) -> Result<(), NoMemory>
-    ensures { OnOk result (text.new ≡ text.old ++ decimal n) }
-{
-    if n < 10 {
-        return text.push(b'0' + n as u8);
-    }
-    let mut buffer = Buffer::new();
-    text.extend(buffer.format(n).as_bytes())
-}
 
 /// The symbol of an element; most that are written have one letter.
 fn push_element(text: &mut Text, element: Element) -> Result<(), NoMemory>
@@ -37,7 +26,7 @@ fn push_isotope(text: &mut Text, isotope: u16) -> Result<(), NoMemory>
     ensures { OnOk result (text.new ≡ text.old ++ isotope_text isotope) }
 {
     if isotope != 0 {
-        push_number(text, isotope as u64)?;
+        put_number(text, isotope as u64)?;
     }
     Ok(())
 }
@@ -50,7 +39,7 @@ fn push_hydrogens(text: &mut Text, hydrogens: u8) -> Result<(), NoMemory>
     }
     text.push(b'H')?;
     if hydrogens != 1 {
-        push_number(text, hydrogens as u64)?;
+        put_number(text, hydrogens as u64)?;
     }
     Ok(())
 }
@@ -65,7 +54,7 @@ fn push_charge(text: &mut Text, charge: i8) -> Result<(), NoMemory>
     text.push(if charge > 0 { b'+' } else { b'-' })?;
     let amount = charge.unsigned_abs();
     if amount != 1 {
-        push_number(text, amount as u64)?;
+        put_number(text, amount as u64)?;
     }
     Ok(())
 }
@@ -77,7 +66,7 @@ fn push_class(text: &mut Text, class: u16) -> Result<(), NoMemory>
         return Ok(());
     }
     text.push(b':')?;
-    push_number(text, class as u64)
+    put_number(text, class as u64)
 }
 
 fn push_bracket(text: &mut Text, atom: Atom) -> Result<(), NoMemory>
@@ -150,7 +139,7 @@ pub fn push_ring_number(text: &mut Text, number: usize) -> Result<(), NoMemory>
     if number >= 10 {
         text.push(b'%')?;
     }
-    push_number(text, number as u64)
+    put_number(text, number as u64)
 }
 
 /// The symbol of a bond order; a single bond has none.
