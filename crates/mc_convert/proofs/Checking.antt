@@ -8,6 +8,7 @@ use Rattle.std.proofs.KnownBytes.{Appends-nil, Appends-trans}
 use Rattle.std.proofs.lemmas.List.{append-nil, append_assoc, length-append, length-take, take-append-drop}
 use Rattle.std.proofs.lemmas.List.Folds.{list_all-append}
 use Rattle.mc_io.specs.LineReader.{LineReader, ahead}
+use Rattle.mc_io.specs.Outside.{AppendsPart}
 use Rattle.mc_convert.specs.declared.check_readers.CheckReaders.{CheckReaders}
 use Rattle.mc_convert.specs.declared.finding.Finding.{Finding}
 use Rattle.mc_convert.specs.declared.record_read.RecordRead.{RecordRead}
@@ -19,10 +20,10 @@ use Rattle.mc_convert.specs.Runs.{Held}
 use Rattle.mc_convert.specs.Findings.{AreReadAs, IsReadAs, is_true, verdict_line}
 use Rattle.mc_convert.specs.Checks.{Remaining, first, at_first, extra_line, extra_text, FindsOne, Finds, IsAllTrue, IsCheckPart, IsCheckText, verdict_lines}
 use Rattle.mc_convert.specs.CheckSteps.{fresh_readers, Advance, AreWithin, IsPast, ReadHalts, ReadsNext, TakesFirst, FindsNext, OneFound}
-use Rattle.mc_convert.specs.CheckRuns.{AllFound, CheckHalts, CheckStopped, ChecksAll, ChecksSome, ChecksLess, PastLimit, RestChecked, RestCut, RestOf, RestStopped, FoundAll, GrownBy, IfKnown, IsLessThanText, LessAt, OneChecked, OneCut, OneStopped, Written}
+use Rattle.mc_convert.specs.CheckRuns.{AllFound, CheckHalts, CheckStopped, ChecksAll, ChecksSome, ChecksLess, PastLimit, RestChecked, RestCut, RestOf, RestStopped, FoundAll, GrownBy, IfKnown, IsLessThanText, LessAt, OneChecked, PutSome, Written}
 use Rattle.mc_convert.proofs.CheckLifts.{halts_later}
 use Rattle.mc_convert.proofs.ReaderSteps.{rose_later}
-use Rattle.mc_convert.proofs.FindingsOnce.{finds_push, finds_count, lines_push, less_than_whole, less_than_extra, all_true_not}
+use Rattle.mc_convert.proofs.FindingsOnce.{finds_push, finds_count, lines_push, less_than_front, less_than_extra, all_true_not}
 
 -- a stop of the reading is one of the check
 pub read_halts : (limit : ℕ) (halt : Halt) (readers : CheckReaders) (before after : ℕ → Told) (old new : Held) → ReadHalts limit halt readers before after → CheckHalts limit halt readers before after old new
@@ -33,8 +34,8 @@ read_halts limit WriteFault readers before after old new h = absurd h
 
 -- ---- the originals so far
 
--- so many originals are checked, and their lines are written
-pub record Front (number : ℕ) (all_true : Bool) (o c r : List ℕ) (originals converted report : Option (List ℕ)) (old new : Held) : Type 0 where
+-- so many originals are checked, and their lines are written up to these
+pub record Front (number : ℕ) (all_true : Bool) (o c r : List ℕ) (originals converted report : Option (List ℕ)) (old new : Held) (lines : List ℕ) : Type 0 where
   pub o_left : List ℕ
   pub c_left : List ℕ
   pub r_left : List ℕ
@@ -47,10 +48,10 @@ pub record Front (number : ℕ) (all_true : Bool) (o c r : List ℕ) (originals 
   pub finds : Finds 1 done (at_first c r) findings (at_first c_left r_left)
   pub count : length done ≡ number
   pub true_is : list_all is_true findings ≡ all_true
-  pub written : Appends old.out new.out (verdict_lines 1 findings)
+  pub put : PutSome old.out new.out (verdict_lines 1 findings) lines
 
-abbrev pub Progress : ℕ → Bool → Option (List ℕ) → Option (List ℕ) → Option (List ℕ) → Option (List ℕ) → Option (List ℕ) → Option (List ℕ) → Held → Held → Type 0
-Progress number all_true o c r originals converted report old new = IfKnown o c r (λ x y z. Front number all_true x y z originals converted report old new)
+abbrev pub Progress : ℕ → Bool → Option (List ℕ) → Option (List ℕ) → Option (List ℕ) → Option (List ℕ) → Option (List ℕ) → Option (List ℕ) → Held → Held → List ℕ → Type 0
+Progress number all_true o c r originals converted report old new lines = IfKnown o c r (λ x y z. Front number all_true x y z originals converted report old new lines)
 
 pub if_known : (o c r : Option (List ℕ)) (P Q : List ℕ → List ℕ → List ℕ → Type 0) → ((x y z : List ℕ) → P x y z → Q x y z) → IfKnown o c r P → IfKnown o c r Q
 if_known None c r P Q f h = tt
@@ -58,7 +59,7 @@ if_known (Some x) None r P Q f h = tt
 if_known (Some x) (Some y) None P Q f h = tt
 if_known (Some x) (Some y) (Some z) P Q f h = f x y z h
 
-pub begun : (o c r : Option (List ℕ)) (held : Held) → Progress 0 true o c r (ahead (fresh 0) o) (ahead (fresh 1) c) (ahead (fresh 2) r) held held
+pub begun : (o c r : Option (List ℕ)) (held : Held) → Progress 0 true o c r (ahead (fresh 0) o) (ahead (fresh 1) c) (ahead (fresh 2) r) held held []
 begun None c r held = tt
 begun (Some x) None r held = tt
 begun (Some x) (Some y) None held = tt
@@ -75,12 +76,12 @@ begun (Some x) (Some y) (Some z) held = record {
   finds = refl;
   count = refl;
   true_is = refl;
-  written = Appends-nil held.out;
+  put = record { written = []; out = Appends-nil held.out; split = refl };
 }
 
 pub fresh_begun : (readers : CheckReaders) (o c r : Option (List ℕ)) (held : Held) → readers ≡ fresh_readers
-    → Progress 0 true o c r (ahead readers.originals o) (ahead readers.converted c) (ahead readers.report r) held held
-fresh_begun readers o c r held e = subst (λ (x : CheckReaders). Progress 0 true o c r (ahead x.originals o) (ahead x.converted c) (ahead x.report r) held held) (sym e) (begun o c r held)
+    → Progress 0 true o c r (ahead readers.originals o) (ahead readers.converted c) (ahead readers.report r) held held []
+fresh_begun readers o c r held e = subst (λ (x : CheckReaders). Progress 0 true o c r (ahead x.originals o) (ahead x.converted c) (ahead x.report r) held held []) (sym e) (begun o c r held)
 
 -- what the next of a list is, and what follows
 from_first : (g : Option (List ℕ)) (xs ys : List (Option (List ℕ))) → Some g ≡ first xs → ys ≡ drop 1 xs → xs ≡ g ∷ ys
@@ -118,9 +119,9 @@ at_number : (done : List (Option (List ℕ))) (number k : ℕ) (given : Option (
     → FindsOne (1 + length done) given before finding after
 at_number done number k given before after finding count next one = subst (λ (n : ℕ). FindsOne n given before finding after) (let e : k ≡ 1 + length done = omega arith in e) one
 
-pub front_pushed : (number k : ℕ) (t u : Bool) (o c r : List ℕ) (o1 c1 r1 o2 c2 r2 : Option (List ℕ)) (old mid new : Held) (given : Option (List ℕ))
-    → Front number t o c r o1 c1 r1 old mid → k ≡ number + 1 → TakesFirst records o1 o2 (Some given) → OneChecked k given c1 c2 r1 r2 mid new u → Front k (t && u) o c r o2 c2 r2 old new
-front_pushed number k t u o c r o1 c1 r1 o2 c2 r2 old mid new given f next takes one =
+pub front_pushed : (number k : ℕ) (t u : Bool) (o c r : List ℕ) (o1 c1 r1 o2 c2 r2 : Option (List ℕ)) (old new : Held) (lines more : List ℕ) (given : Option (List ℕ))
+    → Front number t o c r o1 c1 r1 old new lines → k ≡ number + 1 → TakesFirst records o1 o2 (Some given) → OneChecked k given c1 c2 r1 r2 lines more u → Front k (t && u) o c r o2 c2 r2 old new more
+front_pushed number k t u o c r o1 c1 r1 o2 c2 r2 old new lines more given f next takes one =
     let takes' = subst (λ (x : Option (List ℕ)). TakesFirst records x o2 (Some given)) f.originals_are takes in
     let P : Option (List ℕ) → Type 0 = λ x. FindsNext k given x c2 r1 r2 one.finding in
     let Q : Option (List ℕ) → Type 0 = λ x. FindsNext k given (Some f.c_left) c2 x r2 one.finding in
@@ -143,15 +144,45 @@ front_pushed number k t u o c r o1 c1 r1 o2 c2 r2 old mid new given f next takes
       finds = finds_push 1 f.done given (at_first c r) (at_first f.c_left f.r_left) (at_first s.found.converted_left s.found.report_left) f.findings one.finding f.finds step;
       count = omega arith;
       true_is = list_all-append is_true f.findings (one.finding ∷ []) ∙ both (list_all is_true f.findings) (list_all is_true (one.finding ∷ [])) t u f.true_is (last_true one.finding ∙ sym one.true_is);
-      written = subst (λ (x : List ℕ). Appends old.out new.out x) (ap (λ (x : List ℕ). verdict_lines 1 f.findings ++ x) line ∙ sym (lines_push 1 f.findings one.finding))
-          (Appends-trans old.out mid.out new.out (verdict_lines 1 f.findings) (verdict_line k one.finding) f.written one.written);
+      put = record {
+        written = f.put.written;
+        out = f.put.out;
+        split =
+            ap (λ (x : List ℕ). f.put.written ++ x) one.added ∙ sym (append_assoc f.put.written lines (verdict_line k one.finding))
+            ∙ ap (λ (x : List ℕ). x ++ verdict_line k one.finding) f.put.split
+            ∙ (ap (λ (x : List ℕ). verdict_lines 1 f.findings ++ x) line ∙ sym (lines_push 1 f.findings one.finding));
+      };
     }
 
-pub pushed : (number k : ℕ) (t u : Bool) (o c r o1 c1 r1 o2 c2 r2 : Option (List ℕ)) (old mid new : Held) (given : Option (List ℕ))
-    → Progress number t o c r o1 c1 r1 old mid → k ≡ number + 1 → TakesFirst records o1 o2 (Some given) → OneChecked k given c1 c2 r1 r2 mid new u → Progress k (t && u) o c r o2 c2 r2 old new
-pushed number k t u o c r o1 c1 r1 o2 c2 r2 old mid new given p next takes one =
-    if_known o c r (λ x y z. Front number t x y z o1 c1 r1 old mid) (λ x y z. Front k (t && u) x y z o2 c2 r2 old new)
-    (λ x y z f. front_pushed number k t u x y z o1 c1 r1 o2 c2 r2 old mid new given f next takes one) p
+pub pushed : (number k : ℕ) (t u : Bool) (o c r o1 c1 r1 o2 c2 r2 : Option (List ℕ)) (old new : Held) (lines more : List ℕ) (given : Option (List ℕ))
+    → Progress number t o c r o1 c1 r1 old new lines → k ≡ number + 1 → TakesFirst records o1 o2 (Some given) → OneChecked k given c1 c2 r1 r2 lines more u → Progress k (t && u) o c r o2 c2 r2 old new more
+pushed number k t u o c r o1 c1 r1 o2 c2 r2 old new lines more given p next takes one =
+    if_known o c r (λ x y z. Front number t x y z o1 c1 r1 old new lines) (λ x y z. Front k (t && u) x y z o2 c2 r2 old new more)
+    (λ x y z f. front_pushed number k t u x y z o1 c1 r1 o2 c2 r2 old new lines more given f next takes one) p
+
+-- some of the lines are written
+pub put_more : (number : ℕ) (t : Bool) (o c r o1 c1 r1 : Option (List ℕ)) (old mid new : Held) (lines rest : List ℕ)
+    → Progress number t o c r o1 c1 r1 old mid lines → PutSome mid.out new.out lines rest → Progress number t o c r o1 c1 r1 old new rest
+put_more number t o c r o1 c1 r1 old mid new lines rest p some =
+    if_known o c r (λ x y z. Front number t x y z o1 c1 r1 old mid lines) (λ x y z. Front number t x y z o1 c1 r1 old new rest) (λ x y z f. record {
+      o_left = f.o_left;
+      c_left = f.c_left;
+      r_left = f.r_left;
+      originals_are = f.originals_are;
+      converted_are = f.converted_are;
+      report_is = f.report_is;
+      done = f.done;
+      findings = f.findings;
+      split = f.split;
+      finds = f.finds;
+      count = f.count;
+      true_is = f.true_is;
+      put = record {
+        written = f.put.written ++ some.written;
+        out = Appends-trans old.out mid.out new.out f.put.written some.written f.put.out some.out;
+        split = append_assoc f.put.written some.written rest ∙ (ap (λ (x : List ℕ). f.put.written ++ x) some.split ∙ f.put.split);
+      };
+    }) p
 
 -- ---- a stop
 
@@ -160,79 +191,44 @@ take_front [] ys = refl
 take_front (x ∷ xs) ys = ap (λ (l : List (Option (List ℕ))). x ∷ l) (take_front xs ys)
 
 -- between two originals
-pub stopped_between : (number : ℕ) (t : Bool) (o c r o1 c1 r1 : Option (List ℕ)) (old new : Held) → Progress number t o c r o1 c1 r1 old new → ChecksSome o c r old.out new.out
-stopped_between number t o c r o1 c1 r1 old new p =
-    if_known o c r (λ x y z. Front number t x y z o1 c1 r1 old new) (λ x y z. GrownBy old.out new.out (IsCheckPart x y z)) (λ x y z f. record {
-      more = verdict_lines 1 f.findings;
-      out = f.written;
+pub stopped_between : (number : ℕ) (t : Bool) (o c r o1 c1 r1 : Option (List ℕ)) (old new : Held) (lines : List ℕ) → Progress number t o c r o1 c1 r1 old new lines → ChecksSome o c r old.out new.out
+stopped_between number t o c r o1 c1 r1 old new lines p =
+    if_known o c r (λ x y z. Front number t x y z o1 c1 r1 old new lines) (λ x y z. GrownBy old.out new.out (IsCheckPart x y z)) (λ x y z f. record {
+      more = f.put.written;
+      out = f.put.out;
       holds = inl (record {
         count = length f.done;
         findings = f.findings;
         after = at_first f.c_left f.r_left;
         finds = subst (λ (l : List (Option (List ℕ))). Finds 1 l (at_first y z) f.findings (at_first f.c_left f.r_left)) (sym (ap (take (length f.done)) f.split ∙ take_front f.done (records f.o_left))) f.finds;
-        part = ([], sym (append-nil (verdict_lines 1 f.findings)));
+        part = (lines, sym f.put.split);
       });
     }) p
 
--- within a line
+-- within what was to be written
 pub record Cut (o c r : List ℕ) (old new : Option (List ℕ)) : Type 0 where
   pub some : GrownBy old new (IsCheckPart o c r)
   pub less : GrownBy old new (IsLessThanText o c r)
 
-front_cut : (number k : ℕ) (t : Bool) (o c r : List ℕ) (o1 c1 r1 o2 c2 r2 : Option (List ℕ)) (old mid new : Held) (given : Option (List ℕ))
-    → Front number t o c r o1 c1 r1 old mid → k ≡ number + 1 → TakesFirst records o1 o2 (Some given) → OneCut k given c1 c2 r1 r2 mid new → Cut o c r old.out new.out
-front_cut number k t o c r o1 c1 r1 o2 c2 r2 old mid new given f next takes one =
-    let takes' = subst (λ (x : Option (List ℕ)). TakesFirst records x o2 (Some given)) f.originals_are takes in
-    let P : Option (List ℕ) → Type 0 = λ x. FindsNext k given x c2 r1 r2 one.finding in
-    let Q : Option (List ℕ) → Type 0 = λ x. FindsNext k given (Some f.c_left) c2 x r2 one.finding in
-    let s = taken k given f.o_left f.c_left f.r_left o2 c2 r2 one.finding takes' (subst Q f.report_is (subst P f.converted_are one.finds)) in
-    let step = at_number f.done number k given (at_first f.c_left f.r_left) (at_first s.found.converted_left s.found.report_left) one.finding f.count next s.found.one in
-    let many = finds_count 1 f.done (at_first c r) (at_first f.c_left f.r_left) f.findings f.finds in
-    let count = f.count in
-    let whole : List ℕ = verdict_line k one.finding in
-    let m : ℕ = one.written.0 in
-    let within = one.written.1 in
-    let out = Appends-trans old.out mid.out new.out (verdict_lines 1 f.findings) (take m whole) f.written one.written.2 in
-    let split : records o ≡ f.done ++ given ∷ records s.rest = f.split ∙ ap (λ (x : List (Option (List ℕ))). f.done ++ x) s.begins in
-    let done : List (Option (List ℕ)) = f.done ++ given ∷ [] in
-    let line : verdict_line k one.finding ≡ verdict_line (1 + length f.findings) one.finding = ap (λ (n : ℕ). verdict_line n one.finding) (let e : k ≡ 1 + length f.findings = omega arith in e) in
-    let same : verdict_line k one.finding ≡ verdict_line (1 + length f.done) one.finding = ap (λ (n : ℕ). verdict_line n one.finding) (let e : k ≡ 1 + length f.done = omega arith in e) in
-    let finds = finds_push 1 f.done given (at_first c r) (at_first f.c_left f.r_left) (at_first s.found.converted_left s.found.report_left) f.findings one.finding f.finds step in
-    record {
-      some = record {
-        more = verdict_lines 1 f.findings ++ take m whole;
-        out = out;
-        holds = inl (record {
-          count = length done;
-          findings = f.findings ++ one.finding ∷ [];
-          after = at_first s.found.converted_left s.found.report_left;
-          finds = subst (λ (l : List (Option (List ℕ))). Finds 1 l (at_first c r) (f.findings ++ one.finding ∷ []) (at_first s.found.converted_left s.found.report_left))
-              (sym (ap (take (length done)) (split ∙ sym (append_assoc f.done (given ∷ []) (records s.rest))) ∙ take_front done (records s.rest))) finds;
-          part = (
-            drop m whole,
-            lines_push 1 f.findings one.finding ∙ ap (λ (x : List ℕ). verdict_lines 1 f.findings ++ x) (sym line ∙ sym (take-append-drop m whole)) ∙ sym (append_assoc (verdict_lines 1 f.findings) (take m whole) (drop m whole)),
-          );
-        });
-      };
-      less = record {
-        more = verdict_lines 1 f.findings ++ take m whole;
-        out = out;
+pub stopped_within : (number : ℕ) (t : Bool) (o c r o1 c1 r1 : Option (List ℕ)) (old mid new : Held) (lines : List ℕ)
+    → Progress number t o c r o1 c1 r1 old mid lines → AppendsPart mid.out new.out lines → ChecksSome o c r old.out new.out × ChecksLess o c r old.out new.out
+stopped_within number t o c r o1 c1 r1 old mid new lines p part =
+    let front : List ℕ = take part.0 lines in
+    let rest : List ℕ = drop part.0 lines in
+    let some = stopped_between number t o c r o1 c1 r1 old new rest (put_more number t o c r o1 c1 r1 old mid new lines rest p (record { written = front; out = part.2; split = take-append-drop part.0 lines })) in
+    let F : List ℕ → List ℕ → List ℕ → Type 0 = λ x y z. Front number t x y z o1 c1 r1 old mid lines in (
+      some,
+      if_known o c r F (λ x y z. GrownBy old.out new.out (IsLessThanText x y z)) (λ x y z f. record {
+        more = f.put.written ++ front;
+        out = Appends-trans old.out mid.out new.out f.put.written front f.put.out part.2;
         holds = λ text is.
-            let part = length-append (verdict_lines 1 f.findings) (take m whole) in
-            let low = length-take m whole in
-            let equal = ap (λ (x : List ℕ). length x) same in
-            less_than_whole o c r text f.done (records s.rest) given (at_first f.c_left f.r_left) (at_first s.found.converted_left s.found.report_left) f.findings one.finding (length (verdict_lines 1 f.findings ++ take m whole)) f.finds split step (omega arith) is;
-      };
-    }
-
-pub stopped_within : (number k : ℕ) (t : Bool) (o c r o1 c1 r1 o2 c2 r2 : Option (List ℕ)) (old mid new : Held) (given : Option (List ℕ))
-    → Progress number t o c r o1 c1 r1 old mid → k ≡ number + 1 → TakesFirst records o1 o2 (Some given) → OneCut k given c1 c2 r1 r2 mid new
-    → ChecksSome o c r old.out new.out × ChecksLess o c r old.out new.out
-stopped_within number k t o c r o1 c1 r1 o2 c2 r2 old mid new given p next takes one =
-    let F : List ℕ → List ℕ → List ℕ → Type 0 = λ x y z. Front number t x y z o1 c1 r1 old mid in
-    let cut : (x y z : List ℕ) → F x y z → Cut x y z old.out new.out = λ x y z f. front_cut number k t x y z o1 c1 r1 o2 c2 r2 old mid new given f next takes one in (
-      if_known o c r F (λ x y z. GrownBy old.out new.out (IsCheckPart x y z)) (λ x y z f. (cut x y z f).some) p,
-      if_known o c r F (λ x y z. GrownBy old.out new.out (IsLessThanText x y z)) (λ x y z f. (cut x y z f).less) p,
+            let within = part.1 in
+            let all = ap (λ (l : List ℕ). length l) f.put.split in
+            let joined = length-append f.put.written lines in
+            let put = length-append f.put.written front in
+            let low = length-take part.0 lines in
+            less_than_front x y z text f.done (records f.o_left) (at_first f.c_left f.r_left) f.findings (length (f.put.written ++ front)) f.finds f.split (omega arith) is;
+      }) p,
     )
 
 -- ---- steps of the loop
@@ -259,42 +255,20 @@ none_of all rest read e r = by_given r.given (subst (λ (x : Option RecordRead).
     by_given (Some text) reads takes = absurd reads
 
 -- one more original, where other readers moved on and stayed in between
-pub checked_next : (number k : ℕ) (t u : Bool) (o c r o1 c1 r1 o2 c1' r1' o3 c2 r2 : Option (List ℕ)) (old mid new : Held) (text : Option (List ℕ))
-    → Progress number t o c r o1 c1 r1 old mid → k ≡ number + 1 → TakesFirst records o1 o2 (Some text) → c1' ≡ c1 → r1' ≡ r1 → OneChecked k text c1' c2 r1' r2 mid new u → o3 ≡ o2
-    → Progress k (t && u) o c r o3 c2 r2 old new
-checked_next number k t u o c r o1 c1 r1 o2 c1' r1' o3 c2 r2 old mid new text p next takes same_c same_r one same_o =
-    let P : Option (List ℕ) → Type 0 = λ x. OneChecked k text x c2 r1' r2 mid new u in
-    let Q : Option (List ℕ) → Type 0 = λ x. OneChecked k text c1 c2 x r2 mid new u in
-    let R : Option (List ℕ) → Type 0 = λ x. Progress k (t && u) o c r x c2 r2 old new in
-    subst R (sym same_o) (pushed number k t u o c r o1 c1 r1 o2 c2 r2 old mid new text p next takes (subst Q same_r (subst P same_c one)))
-
-pub cut_next : (number k : ℕ) (t : Bool) (o c r o1 c1 r1 o2 c1' r1' c2 r2 : Option (List ℕ)) (old mid new : Held) (text : Option (List ℕ))
-    → Progress number t o c r o1 c1 r1 old mid → k ≡ number + 1 → TakesFirst records o1 o2 (Some text) → c1' ≡ c1 → r1' ≡ r1 → OneCut k text c1' c2 r1' r2 mid new
-    → ChecksSome o c r old.out new.out × ChecksLess o c r old.out new.out
-cut_next number k t o c r o1 c1 r1 o2 c1' r1' c2 r2 old mid new text p next takes same_c same_r one =
-    let P : Option (List ℕ) → Type 0 = λ x. OneCut k text x c2 r1' r2 mid new in
-    let Q : Option (List ℕ) → Type 0 = λ x. OneCut k text c1 c2 x r2 mid new in
-    stopped_within number k t o c r o1 c1 r1 o2 c2 r2 old mid new text p next takes (subst Q same_r (subst P same_c one))
-
--- nothing more is written
-as_before : (number : ℕ) (t : Bool) (o c r o1 c1 r1 : Option (List ℕ)) (old mid new : Held) → Progress number t o c r o1 c1 r1 old mid → new.out ≡ mid.out → ChecksSome o c r old.out new.out
-as_before number t o c r o1 c1 r1 old mid new p same = subst (λ (x : Option (List ℕ)). ChecksSome o c r old.out x) (sym same) (stopped_between number t o c r o1 c1 r1 old mid p)
-
--- a stop at one original
-pub halted_next : (halt : Halt) (number k : ℕ) (t : Bool) (o c r o1 c1 r1 o2 c1' r1' c2 r2 : Option (List ℕ)) (old mid new : Held) (text : Option (List ℕ))
-    → Progress number t o c r o1 c1 r1 old mid → k ≡ number + 1 → TakesFirst records o1 o2 (Some text) → c1' ≡ c1 → r1' ≡ r1 → OneStopped halt k text c1' c2 r1' r2 mid new
-    → ChecksSome o c r old.out new.out × LessAt halt o c r old new
-halted_next WriteFault number k t o c r o1 c1 r1 o2 c1' r1' c2 r2 old mid new text p next takes same_c same_r one =
-    cut_next number k t o c r o1 c1 r1 o2 c1' r1' c2 r2 old mid new text p next takes same_c same_r one
-halted_next ReadFault number k t o c r o1 c1 r1 o2 c1' r1' c2 r2 old mid new text p next takes same_c same_r one = (as_before number t o c r o1 c1 r1 old mid new p one, tt)
-halted_next InputLimit number k t o c r o1 c1 r1 o2 c1' r1' c2 r2 old mid new text p next takes same_c same_r one = (as_before number t o c r o1 c1 r1 old mid new p one, tt)
-halted_next NoMemory number k t o c r o1 c1 r1 o2 c1' r1' c2 r2 old mid new text p next takes same_c same_r one = (as_before number t o c r o1 c1 r1 old mid new p one, tt)
+pub checked_next : (number k : ℕ) (t u : Bool) (o c r o1 c1 r1 o2 c1' r1' o3 c2 r2 : Option (List ℕ)) (old new : Held) (lines more : List ℕ) (text : Option (List ℕ))
+    → Progress number t o c r o1 c1 r1 old new lines → k ≡ number + 1 → TakesFirst records o1 o2 (Some text) → c1' ≡ c1 → r1' ≡ r1 → OneChecked k text c1' c2 r1' r2 lines more u → o3 ≡ o2
+    → Progress k (t && u) o c r o3 c2 r2 old new more
+checked_next number k t u o c r o1 c1 r1 o2 c1' r1' o3 c2 r2 old new lines more text p next takes same_c same_r one same_o =
+    let P : Option (List ℕ) → Type 0 = λ x. OneChecked k text x c2 r1' r2 lines more u in
+    let Q : Option (List ℕ) → Type 0 = λ x. OneChecked k text c1 c2 x r2 lines more u in
+    let R : Option (List ℕ) → Type 0 = λ x. Progress k (t && u) o c r x c2 r2 old new more in
+    subst R (sym same_o) (pushed number k t u o c r o1 c1 r1 o2 c2 r2 old new lines more text p next takes (subst Q same_r (subst P same_c one)))
 
 -- all are checked
-pub all_found : (number : ℕ) (t : Bool) (o c r o1 c1 r1 o2 c2 r2 : Option (List ℕ)) (old new : Held) → Progress number t o c r o1 c1 r1 old new → TakesFirst records o1 o2 None → c2 ≡ c1 → r2 ≡ r1
+pub all_found : (number : ℕ) (t : Bool) (o c r o1 c1 r1 o2 c2 r2 : Option (List ℕ)) (old new : Held) → Progress number t o c r o1 c1 r1 old new [] → TakesFirst records o1 o2 None → c2 ≡ c1 → r2 ≡ r1
     → FoundAll t o c r c2 r2 old new
 all_found number t o c r o1 c1 r1 o2 c2 r2 old new p takes same_c same_r =
-    if_known o c r (λ x y z. Front number t x y z o1 c1 r1 old new) (λ x y z. AllFound t x y z c2 r2 old new) (λ x y z f.
+    if_known o c r (λ x y z. Front number t x y z o1 c1 r1 old new []) (λ x y z. AllFound t x y z c2 r2 old new) (λ x y z f.
     let none : records f.o_left ≡ [] = at_end f.o_left o2 (subst (λ (a : Option (List ℕ)). TakesFirst records a o2 None) f.originals_are takes) in
     record {
       c_left = f.c_left;
@@ -304,7 +278,7 @@ all_found number t o c r o1 c1 r1 o2 c2 r2 old new p takes same_c same_r =
       findings = f.findings;
       finds = subst (λ (l : List (Option (List ℕ))). Finds 1 l (at_first y z) f.findings (at_first f.c_left f.r_left)) (sym (f.split ∙ ap (λ (l : List (Option (List ℕ))). f.done ++ l) none ∙ append-nil f.done)) f.finds;
       true_is = f.true_is;
-      written = f.written;
+      written = subst (λ (x : List ℕ). Appends old.out new.out x) (sym (append-nil f.put.written) ∙ f.put.split) f.put.out;
     }) p
   where
     at_end : (left : List ℕ) (rest : Option (List ℕ)) → TakesFirst records (Some left) rest None → records left ≡ []
@@ -489,4 +463,4 @@ all_ended readers before after advance o c r (suc (suc (suc i))) less = absurd (
 
 -- nothing is written yet
 pub nothing_checked : (o c r : Option (List ℕ)) (held : Held) → ChecksSome o c r held.out held.out
-nothing_checked o c r held = stopped_between 0 true o c r (ahead (fresh 0) o) (ahead (fresh 1) c) (ahead (fresh 2) r) held held (begun o c r held)
+nothing_checked o c r held = stopped_between 0 true o c r (ahead (fresh 0) o) (ahead (fresh 1) c) (ahead (fresh 2) r) held held [] (begun o c r held)

@@ -209,15 +209,6 @@ all_true_not o c r findings after all finds =
     let same = finds_once 1 (records o) (at_first c r) after all.after findings all.findings finds all.finds in
     (ap (λ (x : List Finding). list_all is_true x) same.0 ∙ all.all_true, ap (λ (x : Remaining). is_extra x) same.1 ∙ all.no_extra)
 
--- the line of an original is among the lines from it on
-line_within : (k : ℕ) (original : Option (List ℕ)) (more : List (Option (List ℕ))) (before after end : Remaining) (finding : Finding) (rest : List Finding) → FindsOne k original before finding after
-    → Finds k (original ∷ more) before rest end → length (verdict_line k finding) ≤ length (verdict_lines k rest)
-line_within k original more before after end finding [] one finds = absurd finds
-line_within k original more before after end finding (g ∷ rest) one (next, other, later) =
-    let same = one_once k original before after next finding g one other in
-    let line = ap (λ (x : Finding). length (verdict_line k x)) same.0 in
-    let whole = length-append (verdict_line k g) (verdict_lines (k + 1) rest) in omega arith
-
 -- the length of what is told of findings behind others
 told_length : (fs rest : List Finding) (after : Remaining) (count : ℕ) → length fs ≡ count → length (verdict_lines 1 fs) + length (verdict_lines (1 + count) rest) ≤ length (told (fs ++ rest) after)
 told_length fs rest after count same =
@@ -227,13 +218,11 @@ told_length fs rest after count same =
     let d = ap (λ (n : ℕ). length (verdict_lines (1 + n) rest)) same in omega arith
 
 -- Less than the lines of the first originals is less than the text of the check.
-pub less_than_whole : (o c r text : List ℕ) (done more : List (Option (List ℕ))) (original : Option (List ℕ)) (middle after : Remaining) (fs : List Finding) (finding : Finding) (n : ℕ)
-    → Finds 1 done (at_first c r) fs middle → records o ≡ done ++ original ∷ more → FindsOne (1 + length done) original middle finding after
-    → n < length (verdict_lines 1 fs) + length (verdict_line (1 + length done) finding) → IsCheckText o c r text → n < length text
-less_than_whole o c r text done more original middle after fs finding n finds split one less is =
+pub less_than_front : (o c r text : List ℕ) (done more : List (Option (List ℕ))) (middle : Remaining) (fs : List Finding) (n : ℕ)
+    → Finds 1 done (at_first c r) fs middle → records o ≡ done ++ more → n < length (verdict_lines 1 fs) → IsCheckText o c r text → n < length text
+less_than_front o c r text done more middle fs n finds split less is =
     let all = subst (λ (os : List (Option (List ℕ))). Finds 1 os (at_first c r) is.findings is.after) split is.finds in
-    let behind = finds_front 1 done (original ∷ more) (at_first c r) middle is.after fs is.findings finds all in
-    let line = line_within (1 + length done) original more middle after is.after finding behind.0 one behind.2 in
+    let behind = finds_front 1 done more (at_first c r) middle is.after fs is.findings finds all in
     let front = told_length fs behind.0 is.after (length done) (finds_count 1 done (at_first c r) middle fs finds) in
     let whole = ap (λ (x : List ℕ). length x) (is.written ∙ ap (λ (x : List Finding). told x is.after) behind.1) in omega arith
 

@@ -68,23 +68,18 @@ pub record FaultsRose (before after : ℕ → ℕ) : Type 0 where
 
 -- ---- one original
 
--- it was found so, and its line is written
-pub record OneChecked (k : ℕ) (original : Option (List ℕ)) (converted converted_rest report report_rest : Option (List ℕ)) (old new : Held) (all_true : Bool) : Type 0 where
+-- it was found so, and its line stands behind those that are still to be written
+pub record OneChecked (k : ℕ) (original : Option (List ℕ)) (converted converted_rest report report_rest : Option (List ℕ)) (lines more : List ℕ) (all_true : Bool) : Type 0 where
   pub finding : Finding
   pub finds : FindsNext k original converted converted_rest report report_rest finding
   pub true_is : all_true ≡ is_true finding
-  pub written : Appends old.out new.out (verdict_line k finding)
+  pub added : more ≡ lines ++ verdict_line k finding
 
--- it was found so, and a part of its line is written, but not all
-pub record OneCut (k : ℕ) (original : Option (List ℕ)) (converted converted_rest report report_rest : Option (List ℕ)) (old new : Held) : Type 0 where
-  pub finding : Finding
-  pub finds : FindsNext k original converted converted_rest report report_rest finding
-  pub written : AppendsPart old.out new.out (verdict_line k finding)
-
--- what a stop leaves
-abbrev pub OneStopped : Halt → ℕ → Option (List ℕ) → Option (List ℕ) → Option (List ℕ) → Option (List ℕ) → Option (List ℕ) → Held → Held → Type 0
-OneStopped WriteFault k original converted converted_rest report report_rest old new = OneCut k original converted converted_rest report report_rest old new
-OneStopped halt k original converted converted_rest report report_rest old new = new.out ≡ old.out
+-- a front of these lines is written, and the rest of them is still to be written
+pub record PutSome (old new : Option (List ℕ)) (lines rest : List ℕ) : Type 0 where
+  pub written : List ℕ
+  pub out : Appends old new written
+  pub split : written ++ rest ≡ lines
 
 -- a stop has its cause
 abbrev pub CheckHalts : ℕ → Halt → CheckReaders → (ℕ → Told) → (ℕ → Told) → Held → Held → Type 0

@@ -1,9 +1,9 @@
-ghost use Rattle.std.specs.Prelude.{◌≡◌, ◌≢◌, ◌⊎◌, ◌↔◌, ◌<◌, ◌≤◌, ◌^◌, ◌&&◌, not, ℕ, List, Option, Err, IfOk, IfErr, OnOk, OnErr, IsTrue};
+ghost use Rattle.std.specs.Prelude.{◌≡◌, ◌≢◌, ◌⊎◌, ◌↔◌, ◌<◌, ◌≤◌, ◌^◌, ◌&&◌, not, [], ℕ, List, Option, Err, IfOk, IfErr, OnOk, OnErr, IsTrue};
 ghost use Rattle.mc_io.specs.LineReader.{ahead};
 ghost use Rattle.mc_convert.specs.Readers.{told};
 ghost use Rattle.mc_convert.specs.Findings.{IsReadAs};
 ghost use Rattle.mc_convert.specs.CheckSteps.{Advance, MayRead, ReadHalts, FindsNext, fresh_readers};
-ghost use Rattle.mc_convert.specs.CheckRuns.{AllIsChecked, ChecksAll, FaultsRose, IfKnown, OneChecked, OneStopped, CheckHalts, ChecksSome, CheckRan, FoundAll, LessAt, PastLimit, RestChecked, RestStopped, Written};
+ghost use Rattle.mc_convert.specs.CheckRuns.{AllIsChecked, ChecksAll, FaultsRose, IfKnown, OneChecked, PutSome, CheckHalts, ChecksSome, CheckRan, FoundAll, LessAt, PastLimit, RestChecked, RestStopped, Written};
 ghost use Rattle.mc_convert.specs.Checks.{extra_line, extra_text, IsAllTrue};
 ghost use Rattle.mc_io.specs.Causes.{HasCause, Rose};
 ghost use Rattle.mc_io.specs.Outside.{AppendsPart};
@@ -14,7 +14,7 @@ use crate::check_readers::CheckReaders;
 use crate::finding::{Finding, map_finding, refusal_finding};
 use crate::record_read::RecordRead;
 use crate::status::{Halt, Status};
-use mc_base::Failed;
+use mc_base::{Failed, Text};
 use mc_io::{Sink, Source, put_all};
 use mc_report::ReportLine;
 use std::alloc::Global;
@@ -56,30 +56,23 @@ fn find_next<S: Source>(
     }
 }
 
-/// Checks original k, writes its verdict line, and says whether that is true.
-#[tactic(auto, using(crate::proofs::Checking::read_halts, crate::proofs::CheckLifts::all_within))]
-fn check_next<S: Source, K: Sink>(
+/// Checks original k, adds its verdict line, and says whether that is true.
+#[tactic(auto, using(crate::proofs::CheckLifts::all_within))]
+fn check_next<S: Source>(
     readers: &mut CheckReaders,
     alloc: Global,
     k: u64,
     original: RecordRead,
     source: &mut S,
-    sink: &mut K,
+    lines: &mut Text,
 ) -> Result<bool, Halt>
     requires { MayRead S.LIMIT readers.old }
     ensures checked { (given : Option (List ℕ)) → IsReadAs given original → IfOk result (OneChecked k given
         (ahead readers.old.converted (S.left source.old 1)) (ahead readers.new.converted (S.left source.new 1))
-        (ahead readers.old.report (S.left source.old 2)) (ahead readers.new.report (S.left source.new 2))
-        (held_by (K.held sink.old) (K.faults sink.old)) (held_by (K.held sink.new) (K.faults sink.new))) }
-    ensures stopped { (given : Option (List ℕ)) → IsReadAs given original → IfErr result (λ halt. OneStopped halt k given
-        (ahead readers.old.converted (S.left source.old 1)) (ahead readers.new.converted (S.left source.new 1))
-        (ahead readers.old.report (S.left source.old 2)) (ahead readers.new.report (S.left source.new 2))
-        (held_by (K.held sink.old) (K.faults sink.old)) (held_by (K.held sink.new) (K.faults sink.new))) }
-    ensures halts { IfErr result (λ halt. CheckHalts S.LIMIT halt readers.new
+        (ahead readers.old.report (S.left source.old 2)) (ahead readers.new.report (S.left source.new 2)) lines.old lines.new) }
+    ensures halts { IfErr result (λ halt. ReadHalts S.LIMIT halt readers.new
         (told (S.left source.old) (S.faults source.old) (S.taken source.old) (S.ended source.old))
-        (told (S.left source.new) (S.faults source.new) (S.taken source.new) (S.ended source.new))
-        (held_by (K.held sink.old) (K.faults sink.old)) (held_by (K.held sink.new) (K.faults sink.new))) }
-    ensures written { Written (held_by (K.held sink.old) (K.faults sink.old)) (held_by (K.held sink.new) (K.faults sink.new)) }
+        (told (S.left source.new) (S.faults source.new) (S.taken source.new) (S.ended source.new))) }
     ensures advance { Advance readers.old readers.new
         (told (S.left source.old) (S.faults source.old) (S.taken source.old) (S.ended source.old))
         (told (S.left source.new) (S.faults source.new) (S.taken source.new) (S.ended source.new)) }
@@ -91,14 +84,43 @@ fn check_next<S: Source, K: Sink>(
         Ok(finding) => finding,
         Err(halt) => return Err(halt),
     };
-    let line = match finding.line(alloc, k) {
-        Ok(line) => line,
-        Err(_) => return Err(Halt::NoMemory),
-    };
-    match put_all(sink, 0, line.as_slice()) {
+    match finding.put_line(lines, k) {
         Ok(()) => Ok(finding.is_true()),
-        Err(_) => Err(Halt::WriteFault),
+        Err(_) => Err(Halt::NoMemory),
     }
+}
+
+/// From how many bytes on verdict lines are written: a write costs more than a verdict.
+const PIECE: usize = 4096;
+
+/// Writes the lines that are still to be written.
+fn put_lines<K: Sink>(sink: &mut K, lines: &mut Text) -> Result<(), Failed>
+    ensures put { OnOk result (PutSome (K.held sink.old 0) (K.held sink.new 0) lines.old lines.new) }
+    ensures all { OnOk result (lines.new ≡ []) }
+    ensures part { OnErr result (AppendsPart (K.held sink.old 0) (K.held sink.new 0) lines.old) }
+    ensures cause { HasCause (K.faults sink.old) (K.faults sink.new) result }
+    ensures kept { K.held sink.new 1 ≡ K.held sink.old 1 }
+{
+    match put_all(sink, 0, lines.as_slice()) {
+        Ok(()) => {
+            lines.truncate(0);
+            Ok(())
+        }
+        Err(failed) => Err(failed),
+    }
+}
+
+/// The same where they are enough for a piece.
+fn put_piece<K: Sink>(sink: &mut K, lines: &mut Text) -> Result<(), Failed>
+    ensures put { OnOk result (PutSome (K.held sink.old 0) (K.held sink.new 0) lines.old lines.new) }
+    ensures part { OnErr result (AppendsPart (K.held sink.old 0) (K.held sink.new 0) lines.old) }
+    ensures cause { HasCause (K.faults sink.old) (K.faults sink.new) result }
+    ensures kept { K.held sink.new 1 ≡ K.held sink.old 1 }
+{
+    if lines.len() < PIECE {
+        return Ok(());
+    }
+    put_lines(sink, lines)
 }
 
 /// Checks all originals, writes their verdict lines, and says whether all are true.
@@ -129,18 +151,32 @@ fn check_originals<S: Source, K: Sink>(
 {
     let mut all_true = true;
     let mut number = 0u64;
+    let mut lines = Text::new(alloc);
     loop {
         let original = match readers.read_original(alloc, source) {
             Ok(Some(original)) => original,
-            Ok(None) => return Ok(all_true),
+            Ok(None) => match put_lines(sink, &mut lines) {
+                Ok(()) => return Ok(all_true),
+                Err(_) => return Err(Halt::WriteFault),
+            },
             Err(halt) => return Err(halt),
         };
         number += 1;
-        match check_next(readers, alloc, number, original, source, sink) {
-            Ok(is_true) => all_true = all_true && is_true,
+        match check_next(readers, alloc, number, original, source, &mut lines) {
+            Ok(is_true) => all_true = both(all_true, is_true),
             Err(halt) => return Err(halt),
         }
+        match put_piece(sink, &mut lines) {
+            Ok(()) => {}
+            Err(_) => return Err(Halt::WriteFault),
+        }
     }
+}
+
+fn both(first: bool, second: bool) -> bool
+    ensures { result ≡ (first && second) }
+{
+    first && second
 }
 
 /// Writes the last line, where something is extra.

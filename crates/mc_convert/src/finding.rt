@@ -28,9 +28,6 @@ pub enum Finding {
     Refusal,
 }
 
-/// Room for a verdict line: two numbers of at most 20 and 10 digits, and the words between them.
-const LINE_ROOM: usize = 64;
-
 impl Finding {
     /// Whether the record is carried over as the report says.
     pub fn is_true(self) -> bool
@@ -43,16 +40,15 @@ impl Finding {
         }
     }
 
-    /// The line that is written of original k.
-    pub fn line(self, alloc: Global, k: u64) -> Result<Text, NoMemory>
-        ensures { IfOk result (λ text. text ≡ verdict_line k self) }
+    /// Adds the line that is written of original k.
+    pub fn put_line(self, lines: &mut Text, k: u64) -> Result<(), NoMemory>
+        ensures { OnOk result (lines.new ≡ lines.old ++ verdict_line k self) }
     {
-        let mut text = Text::from_vec(Vec::with_capacity(alloc, LINE_ROOM)?);
-        put_number(&mut text, k)?;
-        text.push(b' ')?;
-        push_finding(&mut text, self)?;
-        text.push(b'\n')?;
-        Ok(text)
+        put_number(lines, k)?;
+        lines.push(b' ')?;
+        push_finding(lines, self)?;
+        lines.push(b'\n')?;
+        Ok(())
     }
 }
 

@@ -18,7 +18,7 @@ invariant-loop-original g l = record {
   written : Written (held_by (g.K.Sink.held l.initial.sink) (g.K.Sink.faults l.initial.sink)) (held_by (g.K.Sink.held l.sink) (g.K.Sink.faults l.sink));
   progress : Progress l.number l.all_true (g.S.Source.left l.initial.source 0) (g.S.Source.left l.initial.source 1) (g.S.Source.left l.initial.source 2)
       (ahead l.readers.originals (g.S.Source.left l.source 0)) (ahead l.readers.converted (g.S.Source.left l.source 1)) (ahead l.readers.report (g.S.Source.left l.source 2))
-      (held_by (g.K.Sink.held l.initial.sink) (g.K.Sink.faults l.initial.sink)) (held_by (g.K.Sink.held l.sink) (g.K.Sink.faults l.sink));
+      (held_by (g.K.Sink.held l.initial.sink) (g.K.Sink.faults l.initial.sink)) (held_by (g.K.Sink.held l.sink) (g.K.Sink.faults l.sink)) l.lines;
 }
 
 abbrev pub decreases-loop-original : goal.decreases-loop-original
