@@ -6,7 +6,7 @@ import os
 import tempfile
 
 from molecules import write_records
-from program import CHECK, CONVERT, best, build, end, line_count
+from program import CHECK, CONVERT, Run, build, end, least_in_turn, line_count
 
 
 def main():
@@ -20,10 +20,13 @@ def main():
             os.path.join(folder, name) for name in ["records.smi", "out.smi", "report.txt", "verdicts.txt"]
         )
         write_records(path, given.records)
-        convert = best(given.runs, CONVERT, given=path, out=out, error=report)
+        convert, check = least_in_turn(
+            given.runs,
+            lambda: Run(CONVERT, given=path, out=out, error=report),
+            lambda: Run([*CHECK, path, out, report], out=verdicts),
+        )
         if convert.status != 0 or line_count(report) != given.records:
             end(f"convert ended with status {convert.status} and reported {line_count(report)} records of {given.records}")
-        check = best(given.runs, [*CHECK, path, out, report], out=verdicts)
         if check.status != 0 or line_count(verdicts) != given.records:
             end(f"check ended with status {check.status} and gave {line_count(verdicts)} verdicts of {given.records}")
     print(f"convert {convert.seconds:.2f} s, check {check.seconds:.2f} s, ratio {check.seconds / convert.seconds:.2f}")

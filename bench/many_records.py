@@ -7,9 +7,10 @@ import os
 import shutil
 import sys
 import tempfile
+from functools import partial
 
 from molecules import write_records
-from program import CONVERT, COPY_LINES, best, build, end, line_count
+from program import CONVERT, COPY_LINES, Run, best, build, end, least_in_turn, line_count
 
 # Reads without sanitization, and writes the Kekule form in the order of the input.
 RDKIT = """
@@ -47,7 +48,7 @@ def main():
     given = words.parse_args()
     build()
     with tempfile.TemporaryDirectory() as folder:
-        path, out, report = (os.path.join(folder, name) for name in ["records.smi", "out.smi", "report.txt"])
+        path, report = (os.path.join(folder, name) for name in ["records.smi", "report.txt"])
         # In a process of its own, so that this one stays small.
         if (child := os.fork()) == 0:
             write_records(path, given.records)
@@ -56,16 +57,16 @@ def main():
         if line_count(path) != given.records:
             end("the records could not be generated")
         print(f"{given.records} records, {os.path.getsize(path)} bytes; least peak that can be told: {best(1, CONVERT).megabytes:.0f} MB")
+        compared = {name: (command, os.path.join(folder, f"{name}.out")) for name, command in programs(path)}
+        starts = [partial(Run, command, given=path, out=out, error=report) for command, out in compared.values()]
+        runs = dict(zip(compared, least_in_turn(given.runs, *starts)))
+        ours, written = runs["molconv"], line_count(compared["molconv"][1])
+        if ours.status != 0 or written != given.records:
+            end(f"molconv ended with status {ours.status} and wrote {written} records of {given.records}")
         print(f"{'program':24} {'seconds':>8} {'records a second':>17} {'molconv is faster':>18} {'peak, MB':>9}")
-        first = None
-        for name, command in programs(path):
-            run = best(given.runs, command, given=path, out=out, error=report)
-            if name == "molconv":
-                if run.status != 0 or line_count(out) != given.records:
-                    end(f"molconv ended with status {run.status} and wrote {line_count(out)} records of {given.records}")
-                first = run.seconds
+        for name, run in runs.items():
             rate = given.records / run.seconds
-            print(f"{name:24} {run.seconds:8.2f} {rate:17.0f} {run.seconds / first:17.1f}x {run.megabytes:9.0f}")
+            print(f"{name:24} {run.seconds:8.2f} {rate:17.0f} {run.seconds / ours.seconds:17.1f}x {run.megabytes:9.0f}")
 
 
 if __name__ == "__main__":

@@ -41,6 +41,13 @@ def best(times, *args, **files):
     return min((Run(*args, **files) for _ in range(times)), key=lambda run: run.seconds)
 
 
+def least_in_turn(times, *starts):
+    """Of each of several runs the one that took the least time. They take turns, so that a slow while of the machine
+    meets all of them."""
+    rounds = [[start() for start in starts] for _ in range(times)]
+    return [min(runs, key=lambda run: run.seconds) for runs in zip(*rounds)]
+
+
 def line_count(path):
     with open(path, "rb") as file:
         return sum(1 for _ in file)

@@ -6,6 +6,7 @@ use crate::Element;
 
 /// The normal valences of a bare atom, rising; empty where the element is never bare.
 /// (OpenSMILES 1.0, section 3.1.5)
+#[inline(always)]
 pub fn smiles_valences(element: Element) -> &'static [u8]
     ensures value { result.now ≡ smiles_valences element }
     ensures rising { IsStrictlyIncreasing result.now }

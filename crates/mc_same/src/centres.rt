@@ -35,11 +35,12 @@ fn same_centre(map: &[AtomId], ours: Option<[Slot; 4]>, theirs: Option<[Slot; 4]
     requires { HaveEntries (length map.now) ours }
     ensures { IsTrue result ↔ SameCentre map.now ours theirs }
 {
-    match (ours, theirs) {
-        (None, None) => true,
-        (Some(ours), Some(theirs)) => is_even_permutation(&theirs, &all_carried(map, ours)),
-        (Some(_), None) => false,
-        (None, Some(_)) => false,
+    match ours {
+        None => theirs.is_none(),
+        Some(ours) => match theirs {
+            Some(theirs) => is_even_permutation(&theirs, &all_carried(map, ours)),
+            None => false,
+        },
     }
 }
 

@@ -1,5 +1,5 @@
 -- One more token in order, or out of order.
-use Rattle.std.proofs.Common.{arith, ◌≡◌, ℕ, ◌+◌, ◌<◌, List, Bool, true, false, Option, Some, None, below_more}
+use Rattle.std.proofs.Common.{arith, ◌≡◌, ℕ, ◌+◌, List, true, false, Option, Some, None, below_more}
 use Rattle.std.specs.Prelude.{unwrap_or}
 use Rattle.smi_graph.specs.declared.order.Place.{Place}
 use Rattle.smi_graph.specs.declared.role.Role.{Role}

@@ -7,6 +7,7 @@ use crate::ring_end::{end_of, ends_clash, ends_pair_again, set_end, turned};
 use crate::{RingEnd, Role};
 use mc_base::AtomId;
 use mc_mol::Bond;
+use smallvec::SmallVec;
 use smi_lex::BondMark;
 use std::alloc::{AllocError, Global};
 
@@ -110,8 +111,8 @@ pub struct Builder {
     last: Option<u32>,
     /// the latest token
     latest: Option<Role>,
-    returns: Vec<Option<u32>>,
-    ends: Vec<Option<RingEnd>>,
+    returns: SmallVec<Option<u32>, 8>,
+    ends: SmallVec<Option<RingEnd>, 4>,
 }
 
 impl Builder {
@@ -132,8 +133,8 @@ impl Builder {
             count: 0,
             last: None,
             latest: None,
-            returns: Vec::new(alloc),
-            ends: Vec::new(alloc),
+            returns: SmallVec::new(alloc),
+            ends: SmallVec::new(alloc),
         })
     }
 

@@ -42,10 +42,11 @@ impl Reader {
         ensures bounded { IfOk result (λ reader. IsBounded reader.structure) }
         ensures tokens { IfOk result (λ reader. reader.structure.builder.tokens ≡ 0) }
     {
+        // Most texts have fewer atoms and bonds; one that has more takes more room as it is read.
+        let room = bytes - bytes / 4;
         Ok(Reader {
-            // Most texts have fewer atoms; one that has more takes more room as it is read.
-            atoms: Vec::with_capacity(alloc, bytes - bytes / 4)?,
-            structure: Structure::with_room(alloc, bytes)?,
+            atoms: Vec::with_capacity(alloc, room)?,
+            structure: Structure::with_room(alloc, room)?,
             all_light: true,
             all_built: true,
         })

@@ -5,6 +5,7 @@ ghost use Rattle.smi_graph.specs.Reading.{turned, RisesTo};
 ghost use Rattle.smi_graph.specs.RingRules.{said_order, marks_clash, ends_clash, ends_pair_again};
 
 use mc_mol::Bond;
+use smallvec::SmallVec;
 use smi_lex::BondMark;
 use std::alloc::AllocError;
 
@@ -111,7 +112,7 @@ pub fn end_of(ends: &[Option<RingEnd>], number: u8) -> Option<RingEnd>
 }
 
 /// Makes room for a ring number.
-fn reach(ends: &mut Vec<Option<RingEnd>>, number: u8) -> Result<(), AllocError>
+fn reach(ends: &mut SmallVec<Option<RingEnd>, 4>, number: u8) -> Result<(), AllocError>
     ensures long { OnOk result (number < length ends.new.items) }
     ensures same { OnOk result ((n : ℕ) → get_or ends.new.items n None ≡ get_or ends.old.items n None) }
 {
@@ -123,7 +124,7 @@ fn reach(ends: &mut Vec<Option<RingEnd>>, number: u8) -> Result<(), AllocError>
 
 /// Keeps where a ring number is open.
 pub fn set_end(
-    ends: &mut Vec<Option<RingEnd>>,
+    ends: &mut SmallVec<Option<RingEnd>, 4>,
     number: u8,
     end: Option<RingEnd>,
 ) -> Result<(), AllocError>

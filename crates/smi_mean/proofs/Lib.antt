@@ -1,3 +1,4 @@
+pub mod Blanks
 pub mod NoneAbove
 pub mod Building
 pub mod Refusals

@@ -1,11 +1,7 @@
-ghost use Rattle.std.specs.Prelude.{◌≡◌, ℕ, ◌+◌, ◌≤◌, ◌<◌, ◌∷◌, length, take, drop, slice_range};
-ghost use Rattle.smi_mean.specs.Lines.{is_blank, text_of, name_of};
+ghost use Rattle.std.specs.Prelude.{◌≡◌, ◌+◌, ◌≤◌, length, take, drop};
+ghost use Rattle.smi_mean.specs.Lines.{text_of, name_of};
 
-fn is_blank(byte: u8) -> bool
-    ensures { result ≡ is_blank byte }
-{
-    byte == b' ' || byte == b'\t'
-}
+use memchr::memchr2;
 
 /// Where the text of a line ends: at its first blank, or with the line.
 pub fn text_end(line: &[u8]) -> usize
@@ -13,10 +9,8 @@ pub fn text_end(line: &[u8]) -> usize
     ensures text { take result line.now ≡ text_of line.now }
     ensures name { drop (result + 1) line.now ≡ name_of line.now }
 {
-    for (i, byte) in line.iter().enumerate() {
-        if is_blank(*byte) {
-            return i;
-        }
+    match memchr2(b' ', b'\t', line) {
+        Some(blank) => blank,
+        None => line.len(),
     }
-    line.len()
 }

@@ -1,4 +1,4 @@
-use Rattle.std.proofs.Common.{arith, ◌≡◌, ◌∙◌, ◌≤◌, length, sym}
+use Rattle.std.proofs.Common.{◌∙◌, sym}
 use Rattle.smi_graph.proofs.LimitFaults.{all_light, shows_class, shows_charge, shows_no_limit}
 use Rattle.smi_graph.proofs.limits.limit_fault.Goals as goal
 

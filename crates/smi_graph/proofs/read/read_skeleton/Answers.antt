@@ -1,4 +1,4 @@
-use Rattle.std.proofs.Common.{arith, ◌≡◌, true, ap}
+use Rattle.std.proofs.Common.{arith}
 use Rattle.smi_graph.proofs.Lifting.{shows_wrong}
 use Rattle.smi_graph.proofs.Together.{has_all, sound, few, few_found, beyond, nothing}
 use Rattle.smi_graph.proofs.read.read_skeleton.Goals as goal

@@ -9,7 +9,7 @@ pub returns-clause-reads : goal.returns-clause-reads
 returns-clause-reads c = λ before reads.
     let here : c.here-here.result ≡ ring_end before = c.here-here.ensures before reads in
     let other : c.end_of-other.result ≡ open_end c.args.number before =
-    c.end_of-other.ensures ∙ ap (λ (x : List (Option RingEnd)). get_or x c.args.number None) c.deref.ensures.value ∙ reads.ends c.args.number in
+    c.end_of-other.ensures ∙ ap (λ (x : List (Option RingEnd)). get_or x c.args.number None) c.deref.ensures ∙ reads.ends c.args.number in
     record {
       bonds = c.in_ok-push_ring_bond.ensures ∙ rw (other, here, reads.bonds) refl;
       tokens = let e = reads.tokens in omega arith;

@@ -1,10 +1,8 @@
-use Rattle.std.proofs.Common.{arith, ◌≡◌, ◌∙◌, ◌∷◌, ◌++◌, [], ◌+◌, ℕ, List, take, map, subst, sym, ap, refl}
+use Rattle.std.proofs.Common.{arith, ◌≡◌, ◌∙◌, ◌∷◌, ◌++◌, [], ℕ, List, take, map, sym, ap, refl}
 use Rattle.std.specs.List.{list_all}
-use Rattle.std.specs.Prelude.{◌&&◌, Bool}
 use Rattle.std.proofs.lemmas.List.{length-map}
 use Rattle.std.proofs.lemmas.List.Folds.{list_all-append}
 use Rattle.smi_lex.specs.declared.token.Token.{Token}
-use Rattle.smi_graph.specs.declared.role.Role.{Role}
 use Rattle.smi_graph.specs.declared.skeleton.SkelAtom.{SkelAtom}
 use Rattle.smi_graph.specs.Roles.{role_of, roles, atom_of, atoms_of}
 use Rattle.smi_graph.specs.Reading.{held_atom, is_light}

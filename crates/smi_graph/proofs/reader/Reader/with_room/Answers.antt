@@ -1,6 +1,6 @@
 use Rattle.std.proofs.Common.{arith, ◌∙◌, ℕ, sym, ap}
 use Rattle.std.specs.List.{list_all}
-use Rattle.std.specs.Prelude.{take, map, true}
+use Rattle.std.specs.Prelude.{take, map}
 use Rattle.smi_graph.specs.Roles.{roles, atoms_of}
 use Rattle.smi_graph.specs.Reading.{held_atom, is_light}
 use Rattle.smi_graph.specs.Rules.{is_built_kind}
