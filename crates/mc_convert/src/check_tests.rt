@@ -5,6 +5,8 @@ ghost use Rattle.mc_io.specs.MemorySource.{taken};
 
 use crate::tests::words_of;
 use crate::{Status, run};
+use mc_base::Text;
+use mc_digits::put_number;
 use mc_io::{MemorySink, MemorySource};
 use std::alloc::Global;
 use std::process::Abort;
@@ -385,9 +387,11 @@ fn long_lines(rt: HostRuntime) -> Result<(), Fail> {
     )
 }
 
-/// The status and output 0 of a check of the three originals whose reads and writes with these numbers fail.
-fn stopped(
+/// The status of a check whose reads and writes with these numbers fail, and how much of its text is written.
+fn stopped_in(
     rt: &(impl Abort + AllocGlobal),
+    inputs: [&[u8]; 3],
+    verdicts: &[u8],
     piece: usize,
     fail_read: Option<u64>,
     fail_write: Option<u64>,
@@ -399,14 +403,27 @@ fn stopped(
     reads.extend(fail_read)?;
     let mut writes = Vec::new(alloc);
     writes.extend(fail_write)?;
-    let mut source = source_of(alloc, [THREE, THREE_OUT, THREE_REPORT], piece, reads)?;
-    let mut sink = MemorySink::new(alloc, 4096, piece, writes)?;
+    let mut source = source_of(alloc, inputs, piece, reads)?;
+    let mut sink = MemorySink::new(alloc, 8192, piece, writes)?;
     let words = words_of(alloc, &CHECK)?;
     let status = run(alloc, &words, &mut source, &mut sink);
     let held = sink.bytes(0);
-    assert!(rt; THREE_TRUE.starts_with(held));
+    assert!(rt; verdicts.starts_with(held));
     assert!(rt; sink.bytes(1).is_empty());
     Ok((status, held.len()))
+}
+
+/// The same of the three originals.
+fn stopped(
+    rt: &(impl Abort + AllocGlobal),
+    piece: usize,
+    fail_read: Option<u64>,
+    fail_write: Option<u64>,
+) -> Result<(Status, usize), Fail>
+    requires { 1 ≤ piece }
+{
+    let inputs: [&[u8]; 3] = [THREE, THREE_OUT, THREE_REPORT];
+    stopped_in(rt, inputs, THREE_TRUE, piece, fail_read, fail_write)
 }
 
 #[test]
@@ -425,18 +442,60 @@ fn reads_that_fail(rt: HostRuntime) -> Result<(), Fail> {
 
 #[test]
 fn writes_that_fail(rt: HostRuntime) -> Result<(), Fail> {
-    // one write for each original; of those in pieces of 2 each takes four
-    for call in 1..4u64 {
-        let (status, held) = stopped(&rt, 1000, None, Some(call))?;
-        assert!(&rt; status == Status::WriteFault);
-        assert!(&rt; held as u64 == 7 * (call - 1));
-    }
-    for call in 1..13u64 {
+    // three short lines are one write
+    let (status, held) = stopped(&rt, 1000, None, Some(1))?;
+    assert!(&rt; status == Status::WriteFault);
+    assert!(&rt; held == 0);
+    let (status, held) = stopped(&rt, 1000, None, Some(2))?;
+    assert!(&rt; status == Status::Done);
+    assert!(&rt; held == THREE_TRUE.len());
+    // in pieces of 2 their 21 bytes are eleven
+    for call in 1..12u64 {
         let (status, held) = stopped(&rt, 2, None, Some(call))?;
         assert!(&rt; status == Status::WriteFault);
-        assert!(&rt; held < THREE_TRUE.len());
+        assert!(&rt; held as u64 == 2 * (call - 1));
     }
-    let (status, _) = stopped(&rt, 2, None, Some(13))?;
+    let (status, _) = stopped(&rt, 2, None, Some(12))?;
     assert!(&rt; status == Status::Done);
+    Ok(())
+}
+
+/// The report and the verdicts of so many records of one atom that are carried over.
+fn of_single_atoms(alloc: Global, count: u64) -> Result<(Text, Text), Fail> {
+    let mut report = Text::new(alloc);
+    let mut verdicts = Text::new(alloc);
+    for k in 1..=count {
+        put_number(&mut report, k)?;
+        report.extend(b" ok map=1 idle=0 ring=0 data=0\n")?;
+        put_number(&mut verdicts, k)?;
+        verdicts.extend(b" true\n")?;
+    }
+    Ok((report, verdicts))
+}
+
+#[test]
+fn verdicts_of_two_pieces(rt: HostRuntime) -> Result<(), Fail> {
+    let alloc = rt.alloc();
+    let records = b"C\n".repeat(alloc, 600)?;
+    let (report, verdicts) = of_single_atoms(alloc, 600)?;
+    // 9 lines of 7 bytes, 90 of 8 and 501 of 9; the first 468 are above 4,096 bytes
+    assert!(&rt; verdicts.len() == 5292);
+    for (call, written) in [(1u64, 0usize), (2, 4104)] {
+        let inputs: [&[u8]; 3] = [&records, &records, report.as_slice()];
+        let (status, held) = stopped_in(
+            &rt,
+            inputs,
+            verdicts.as_slice(),
+            60_000,
+            None,
+            Some(call),
+        )?;
+        assert!(&rt; status == Status::WriteFault);
+        assert!(&rt; held == written);
+    }
+    let inputs: [&[u8]; 3] = [&records, &records, report.as_slice()];
+    let (status, held) = stopped_in(&rt, inputs, verdicts.as_slice(), 60_000, None, Some(3))?;
+    assert!(&rt; status == Status::Done);
+    assert!(&rt; held == 5292);
     Ok(())
 }
