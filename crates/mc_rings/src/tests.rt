@@ -77,70 +77,60 @@ fn check_independent(
     Ok(())
 }
 
+/// The molecule with these single bonds has these ring sizes, and so many independent rings.
+fn has_sizes(
+    rt: &(impl Abort + AllocGlobal),
+    count: u32,
+    pairs: &[(u32, u32)],
+    sizes: &[u32],
+    independent: u32,
+) -> Result<(), Fail> {
+    let mol = molecule(rt, count, pairs)?;
+    check_sizes(rt, &mol, sizes)?;
+    check_independent(rt, &mol, independent)?;
+    Ok(())
+}
+
 #[test]
 fn ring_sizes(rt: HostRuntime) -> Result<(), Fail> {
     // two rings of three, joined by a bond
-    let joined = molecule(
-        &rt,
-        6,
-        &[(0, 1), (1, 2), (0, 2), (2, 3), (3, 4), (4, 5), (3, 5)],
-    )?;
-    check_sizes(&rt, &joined, &[3, 3, 3, 0, 3, 3, 3])?;
+    let joined = [(0, 1), (1, 2), (0, 2), (2, 3), (3, 4), (4, 5), (3, 5)];
+    has_sizes(&rt, 6, &joined, &[3, 3, 3, 0, 3, 3, 3], 2)?;
     // two rings of five that share a bond
-    let shared = molecule(
-        &rt,
-        8,
-        &[
-            (0, 1),
-            (1, 2),
-            (2, 3),
-            (3, 4),
-            (0, 4),
-            (4, 5),
-            (5, 6),
-            (6, 7),
-            (3, 7),
-        ],
-    )?;
-    check_sizes(&rt, &shared, &[5, 5, 5, 5, 5, 5, 5, 5, 5])?;
+    let shared = [
+        (0, 1),
+        (1, 2),
+        (2, 3),
+        (3, 4),
+        (0, 4),
+        (4, 5),
+        (5, 6),
+        (6, 7),
+        (3, 7),
+    ];
+    has_sizes(&rt, 8, &shared, &[5, 5, 5, 5, 5, 5, 5, 5, 5], 2)?;
     // a ring of six with a bond across
-    let across = molecule(
-        &rt,
-        6,
-        &[(0, 1), (1, 2), (2, 3), (3, 4), (4, 5), (0, 5), (0, 3)],
-    )?;
-    check_sizes(&rt, &across, &[4, 4, 4, 4, 4, 4, 4])?;
+    let across = [(0, 1), (1, 2), (2, 3), (3, 4), (4, 5), (0, 5), (0, 3)];
+    has_sizes(&rt, 6, &across, &[4, 4, 4, 4, 4, 4, 4], 2)?;
     // a cube
-    let cube = molecule(
-        &rt,
-        8,
-        &[
-            (0, 1),
-            (1, 3),
-            (3, 2),
-            (2, 0),
-            (4, 5),
-            (5, 7),
-            (7, 6),
-            (6, 4),
-            (0, 4),
-            (1, 5),
-            (2, 6),
-            (3, 7),
-        ],
-    )?;
-    check_sizes(&rt, &cube, &[4, 4, 4, 4, 4, 4, 4, 4, 4, 4, 4, 4])?;
+    let cube = [
+        (0, 1),
+        (1, 3),
+        (3, 2),
+        (2, 0),
+        (4, 5),
+        (5, 7),
+        (7, 6),
+        (6, 4),
+        (0, 4),
+        (1, 5),
+        (2, 6),
+        (3, 7),
+    ];
+    has_sizes(&rt, 8, &cube, &[4, 4, 4, 4, 4, 4, 4, 4, 4, 4, 4, 4], 5)?;
     // three parts, one of them a single atom
-    let parts = molecule(&rt, 6, &[(0, 1), (2, 3), (3, 4), (4, 2)])?;
-    check_sizes(&rt, &parts, &[0, 3, 3, 3])?;
-    let empty = molecule(&rt, 0, &[])?;
-    check_sizes(&rt, &empty, &[])?;
-    check_independent(&rt, &joined, 2)?;
-    check_independent(&rt, &shared, 2)?;
-    check_independent(&rt, &across, 2)?;
-    check_independent(&rt, &cube, 5)?;
-    check_independent(&rt, &parts, 1)?;
-    check_independent(&rt, &empty, 0)?;
+    has_sizes(&rt, 6, &[(0, 1), (2, 3), (3, 4), (4, 2)], &[0, 3, 3, 3], 1)?;
+    has_sizes(&rt, 0, &[], &[], 0)?;
     Ok(())
 }
 
@@ -163,47 +153,50 @@ fn check_blocks(
     check_order(rt, mol, &rings)
 }
 
+/// The molecule with these single bonds has so many blocks, with these numbers but for their names.
+fn has_blocks(
+    rt: &(impl Abort + AllocGlobal),
+    count: u32,
+    pairs: &[(u32, u32)],
+    blocks: u32,
+    numbers: &[u32],
+) -> Result<(), Fail> {
+    let mol = molecule(rt, count, pairs)?;
+    check_blocks(rt, &mol, blocks, numbers)?;
+    Ok(())
+}
+
 #[test]
 fn blocks(rt: HostRuntime) -> Result<(), Fail> {
     // two rings of three, joined by a bond: C1CC1C1CC1
-    let joined = molecule(
-        &rt,
-        6,
-        &[(0, 1), (1, 2), (0, 2), (2, 3), (3, 4), (4, 5), (3, 5)],
-    )?;
-    check_blocks(&rt, &joined, 3, &[0, 0, 0, 1, 2, 2, 2])?;
+    let joined = [(0, 1), (1, 2), (0, 2), (2, 3), (3, 4), (4, 5), (3, 5)];
+    has_blocks(&rt, 6, &joined, 3, &[0, 0, 0, 1, 2, 2, 2])?;
     // two rings that share a bond
-    let fused = molecule(&rt, 4, &[(0, 1), (1, 2), (2, 3), (3, 0), (0, 2)])?;
-    check_blocks(&rt, &fused, 1, &[0, 0, 0, 0, 0])?;
+    let fused = [(0, 1), (1, 2), (2, 3), (3, 0), (0, 2)];
+    has_blocks(&rt, 4, &fused, 1, &[0, 0, 0, 0, 0])?;
     // two rings that share an atom
-    let spiro = molecule(&rt, 5, &[(0, 1), (1, 2), (2, 0), (2, 3), (3, 4), (4, 2)])?;
-    check_blocks(&rt, &spiro, 2, &[0, 0, 0, 1, 1, 1])?;
+    let spiro = [(0, 1), (1, 2), (2, 0), (2, 3), (3, 4), (4, 2)];
+    has_blocks(&rt, 5, &spiro, 2, &[0, 0, 0, 1, 1, 1])?;
     // a ring of three rings
-    let ring_of_rings = molecule(
-        &rt,
-        6,
-        &[
-            (0, 1),
-            (1, 2),
-            (2, 0),
-            (2, 3),
-            (3, 4),
-            (4, 2),
-            (4, 5),
-            (5, 0),
-            (0, 4),
-        ],
-    )?;
-    check_blocks(&rt, &ring_of_rings, 1, &[0, 0, 0, 0, 0, 0, 0, 0, 0])?;
+    let ring_of_rings = [
+        (0, 1),
+        (1, 2),
+        (2, 0),
+        (2, 3),
+        (3, 4),
+        (4, 2),
+        (4, 5),
+        (5, 0),
+        (0, 4),
+    ];
+    has_blocks(&rt, 6, &ring_of_rings, 1, &[0, 0, 0, 0, 0, 0, 0, 0, 0])?;
     // three parts, one of them a single atom
-    let parts = molecule(&rt, 6, &[(0, 1), (2, 3), (3, 4), (4, 2)])?;
-    check_blocks(&rt, &parts, 2, &[0, 1, 1, 1])?;
+    has_blocks(&rt, 6, &[(0, 1), (2, 3), (3, 4), (4, 2)], 2, &[0, 1, 1, 1])?;
     // a triangle with a tail at each atom
-    let tails = molecule(&rt, 6, &[(3, 0), (0, 1), (4, 1), (1, 2), (5, 2), (2, 0)])?;
-    check_blocks(&rt, &tails, 4, &[1, 0, 2, 0, 3, 0])?;
-    check_sizes(&rt, &tails, &[0, 3, 0, 3, 0, 3])?;
-    let empty = molecule(&rt, 0, &[])?;
-    check_blocks(&rt, &empty, 0, &[])?;
+    let tails = [(3, 0), (0, 1), (4, 1), (1, 2), (5, 2), (2, 0)];
+    has_blocks(&rt, 6, &tails, 4, &[1, 0, 2, 0, 3, 0])?;
+    has_sizes(&rt, 6, &tails, &[0, 3, 0, 3, 0, 3], 1)?;
+    has_blocks(&rt, 0, &[], 0, &[])?;
     Ok(())
 }
 
