@@ -6,7 +6,7 @@ import sys
 import time
 
 TOP = os.path.dirname(os.path.dirname(os.path.abspath(__file__)))
-WRAPPER = os.path.join(TOP, "bin", "molconv")
+BUILD = os.path.join(TOP, "bin", "build")
 MOLCONV = os.path.join(TOP, "crates", "molconv", "out", "molconv")
 SMILES = ["--from", "smi", "--to", "smi"]
 CONVERT = [MOLCONV, "convert", *SMILES]
@@ -16,8 +16,8 @@ COPY_LINES = "import sys\nwrite = sys.stdout.buffer.write\nfor line in sys.stdin
 
 
 def build():
-    """Builds the program where that is still to be done. It is then run itself, and not by its wrapper."""
-    subprocess.run([WRAPPER, "convert", *SMILES], stdin=subprocess.DEVNULL, check=True)
+    """Builds the program where that is still to be done. It is then run itself, and not by its script."""
+    subprocess.run([BUILD], stdout=sys.stderr, check=True)
 
 
 class Run:
