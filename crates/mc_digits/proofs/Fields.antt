@@ -1,6 +1,6 @@
 -- What a reader of fields finds is what the grammar says.
 use Rattle.std.proofs.Common.{arith, ◌≡◌, ◌<◌, ◌≤◌, ◌+◌, ◌-◌, ◌*◌, ◌==◌, ◌&&◌, ◌||◌, ◌⊎◌, ℕ, suc, Bool, true, false, List, [], ◌∷◌, ◌++◌, length, Option, Some, None, refl, sym, ap, subst, ◌∙◌, inl, inr, if◌then◌else◌, nat_lt}
-use Rattle.std.proofs.lemmas.Bool.{cases_Bool, cases_lt, eqb-true}
+use Rattle.std.proofs.lemmas.Bool.{cases_Bool, cases_lt, eqb-true, and_parts}
 use Rattle.std.proofs.lemmas.Bool.Decides.{nat_tests}
 use Rattle.std.proofs.lemmas.List.{append-nil}
 use Rattle.std.proofs.lemmas.Str.{digit_value_digit}
@@ -10,10 +10,6 @@ use Rattle.std.specs.List.{list_all}
 use Rattle.std.specs.Str.Parse.{AllDigits, digits_value, digits_value_after}
 use Rattle.mc_digits.specs.Fields.{AreBlanks, IsCount, IsSigned, is_blank, ten_thousandths}
 use Rattle.mc_digits.specs.Fronts.{count_behind, count_of, count_signed, counted, digits_front, sign_front, signed_value, skip_blanks, weighted}
-
-pub both_true : (s t : Bool) → (s && t) ≡ true → (s ≡ true) × (t ≡ true)
-both_true true t is = (refl, is)
-both_true false t is = cc
 
 -- ---- digits
 
@@ -106,7 +102,7 @@ pub skip_all : (blanks rest : List ℕ) → AreBlanks blanks → starts is_blank
 skip_all [] [] all stops = refl
 skip_all [] (b ∷ bs) all stops = rw stops refl
 skip_all (b ∷ bs) rest all stops =
-    let both = both_true (is_blank b) (list_all is_blank bs) all in
+    let both = and_parts (is_blank b) (list_all is_blank bs) all in
     let blank : is_blank b ≡ true = both.0 in
     rw blank (skip_all bs rest both.1 stops)
 
@@ -114,14 +110,14 @@ skip_all (b ∷ bs) rest all stops =
 pub all_skipped : (blanks : List ℕ) → AreBlanks blanks → skip_blanks blanks ≡ []
 all_skipped [] all = refl
 all_skipped (b ∷ bs) all =
-    let both = both_true (is_blank b) (list_all is_blank bs) all in
+    let both = and_parts (is_blank b) (list_all is_blank bs) all in
     let blank : is_blank b ≡ true = both.0 in
     rw blank (all_skipped bs both.1)
 
 -- blanks begin with no digit and no point
 pub blank_stops : (text : List ℕ) → AreBlanks text → (starts is_ascii_digit text ≡ false) × (starts (λ b. b == 46) text ≡ false)
 blank_stops [] all = (refl, refl)
-blank_stops (b ∷ bs) all = (not_digit b (both_true (is_blank b) (list_all is_blank bs) all).0, not_point b (both_true (is_blank b) (list_all is_blank bs) all).0)
+blank_stops (b ∷ bs) all = (not_digit b (and_parts (is_blank b) (list_all is_blank bs) all).0, not_point b (and_parts (is_blank b) (list_all is_blank bs) all).0)
   where
     not_digit : (c : ℕ) → is_blank c ≡ true → is_ascii_digit c ≡ false
     not_digit c is = grind (arith, nat_tests)
@@ -216,7 +212,7 @@ counted_some negative digits value is =
     (λ t. (nat_lt 0 digits.1 && list_all is_blank digits.2) ≡ t → ◌≡◌ {A = Option ℤ} (if t then Some (signed_value negative digits.0) else None) (Some value)
     → (0 < digits.1) × AreBlanks digits.2 × (signed_value negative digits.0 ≡ value)) [
       | true ↦ λ tests found.
-          let both = both_true (nat_lt 0 digits.1) (list_all is_blank digits.2) tests in
+          let both = and_parts (nat_lt 0 digits.1) (list_all is_blank digits.2) tests in
           (above digits.1 both.0, both.1, cc)
       | false ↦ λ tests found. cc
     ] refl is

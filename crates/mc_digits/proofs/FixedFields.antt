@@ -1,6 +1,6 @@
 -- What a reader of fixed-point fields finds is what the grammar says.
 use Rattle.std.proofs.Common.{arith, ◌≡◌, ◌<◌, ◌≤◌, ◌+◌, ◌*◌, ◌==◌, ◌&&◌, ◌||◌, ◌⊎◌, ℕ, zero, suc, Bool, true, false, List, [], ◌∷◌, ◌++◌, length, Option, Some, None, refl, sym, ap, subst, ◌∙◌, inl, inr, if◌then◌else◌, nat_lt}
-use Rattle.std.proofs.lemmas.Bool.{cases_Bool, eqb-true}
+use Rattle.std.proofs.lemmas.Bool.{cases_Bool, eqb-true, and_parts}
 use Rattle.std.proofs.lemmas.Bool.Decides.{nat_tests}
 use Rattle.std.proofs.lemmas.List.{append-nil}
 use Rattle.std.specs.Prelude.{ℤ, option_and_then}
@@ -9,7 +9,7 @@ use Rattle.std.specs.List.{list_all}
 use Rattle.std.specs.Str.Parse.{AllDigits, digits_value}
 use Rattle.mc_digits.specs.Fields.{AreBlanks, IsFixed, IsFraction, IsSigned, is_blank, ten_thousandths}
 use Rattle.mc_digits.specs.Fronts.{digits_front, fixed_behind, fixed_of, fixed_signed, fraction_front, pointed, sign_front, signed_value, skip_blanks, weighted}
-use Rattle.mc_digits.proofs.Fields.{Digits, Sign, all_skipped, begins, blank_stops, blanks_of, both_true, digit_begins, digits_cases, digits_of, digits_read, is_some, sign_of, sign_read, skip_all, starts, weighted_read}
+use Rattle.mc_digits.proofs.Fields.{Digits, Sign, all_skipped, begins, blank_stops, blanks_of, digit_begins, digits_cases, digits_of, digits_read, is_some, sign_of, sign_read, skip_all, starts, weighted_read}
 
 -- ---- fractions
 
@@ -112,7 +112,7 @@ pointed_some negative whole fraction value is =
     → ◌≡◌ {A = Option ℤ} (if t then Some (signed_value negative (whole.0 * 10000 + fraction.0)) else None) (Some value)
     → (0 < whole.1 + fraction.1) × AreBlanks fraction.2 × (signed_value negative (whole.0 * 10000 + fraction.0) ≡ value)) [
       | true ↦ λ tests found.
-          let both = both_true (nat_lt 0 whole.1 || nat_lt 0 fraction.1) (list_all is_blank fraction.2) tests in
+          let both = and_parts (nat_lt 0 whole.1 || nat_lt 0 fraction.1) (list_all is_blank fraction.2) tests in
           (above whole.1 fraction.1 both.0, both.1, cc)
       | false ↦ λ tests found. cc
     ] refl is

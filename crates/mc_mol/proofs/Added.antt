@@ -1,7 +1,8 @@
 -- A molecule with one more atom, and with one more bond.
 use Rattle.std.proofs.Common.{◌≡◌, ◌≢◌, ℕ, zero, suc, ◌+◌, ◌<◌, ◌≤◌, ◌↔◌, Bool, true, false, ◌||◌, ◌==◌, List, [], ◌∷◌, ◌++◌, Option, Some, None, Contains, length, reverse, take, get_or, slice_get, subst, sym, ap, ◌∙◌, arith, refl, inl, inr}
+use Rattle.std.proofs.Math.Bool.{or-false}
 use Rattle.std.specs.List.{All, list_any}
-use Rattle.std.proofs.lemmas.Bool.{cases_eq}
+use Rattle.std.proofs.lemmas.Bool.{cases_eq, or_parts, ne_eqb}
 use Rattle.std.proofs.lemmas.Option.{slice_get_within}
 use Rattle.std.proofs.lemmas.List.Folds.{list_any-append}
 use Rattle.std.proofs.lemmas.List.{length-append, length-reverse, take_more, append-nil, get_or_append_left}
@@ -21,7 +22,7 @@ use Rattle.mc_mol.specs.HalfEdges.{half_edge, half_edges_by, degree}
 use Rattle.mc_mol.specs.WellFormed.{IsBond, IsMolecule, IsPlaceList, IsSides}
 use Rattle.mc_mol.specs.Stored.{HoldsHalfEdges}
 use Rattle.mc_mol.proofs.Lists.{reverse_push, All-reverse, slice_get-append_left, slice_get-push_none}
-use Rattle.mc_mol.proofs.Halves.{half_edges_by-none, half_edge-first, half_edge-second, half_edge-other, length-half_edges_by, degree_le, other_test, and_false, or_false}
+use Rattle.mc_mol.proofs.Halves.{half_edges_by-none, half_edge-first, half_edge-second, half_edge-other, length-half_edges_by, degree_le, and_false}
 
 length_push : {A : Type 0} (xs : List A) (x : A) → length (xs ++ x ∷ []) ≡ length xs + 1
 length_push xs x = length-append xs (x ∷ [])
@@ -53,8 +54,8 @@ with_atom-IsMolecule m atom is room =
       sides = is.sides;
     }
 
-with_atom-HoldsHalfEdges : (m : Molecule) (lists : List (SmallVec HalfEdge)) (atom : Atom) (list : SmallVec HalfEdge) → IsMolecule m → HoldsHalfEdges m lists
-    → list.items ≡ [] → HoldsHalfEdges (with_atom m atom) (lists ++ list ∷ [])
+with_atom-HoldsHalfEdges : (m : Molecule) (lists : List (SmallVec HalfEdge)) (atom : Atom) (list : SmallVec HalfEdge) → IsMolecule m → HoldsHalfEdges (length m.atoms) m.bonds lists
+    → list.items ≡ [] → HoldsHalfEdges (length (m.atoms ++ atom ∷ [])) m.bonds (lists ++ list ∷ [])
 with_atom-HoldsHalfEdges m lists atom list is holds empty =
     let one : length (m.atoms ++ atom ∷ []) ≡ length m.atoms + 1 = length_push m.atoms atom in
     let other : length (lists ++ list ∷ []) ≡ length lists + 1 = length_push lists list in
@@ -78,30 +79,22 @@ with_atom-HoldsHalfEdges m lists atom list is holds empty =
 abbrev pub with_bond : Molecule → Bond → Molecule
 with_bond m bond = record m { bonds = m.bonds ++ bond ∷ []; sides = m.sides ++ None ∷ [] }
 
-or_left : (a b : Bool) → (a || b) ≡ false → a ≡ false
-or_left true b e = cc
-or_left false b e = refl
-
-or_right : (a b : Bool) → (a || b) ≡ false → b ≡ false
-or_right true b e = cc
-or_right false b e = e
-
 one_bond : (n : ℕ) (bond : Bond) → IsBond n bond → All (IsBond n) (bond ∷ [])
 one_bond n bond is zero d h = is
 one_bond n bond is (suc k) d h = absurd (omega arith)
 
 none_joins : (u v : ℕ) (bonds : List Bond) → are_joined bonds u v ≡ false → All (λ (bond : Bond). joins bond u v ≡ false) bonds
 none_joins u v [] e k d h = absurd (omega arith)
-none_joins u v (bond ∷ bonds) e zero d h = or_left (joins bond u v) (are_joined bonds u v) e
-none_joins u v (bond ∷ bonds) e (suc k) d h = none_joins u v bonds (or_right (joins bond u v) (are_joined bonds u v) e) k d (omega arith)
+none_joins u v (bond ∷ bonds) e zero d h = (or_parts (joins bond u v) (are_joined bonds u v) e).0
+none_joins u v (bond ∷ bonds) e (suc k) d h = none_joins u v bonds (or_parts (joins bond u v) (are_joined bonds u v) e).1 k d (omega arith)
 
 -- a bond changes nothing of whether other atoms are joined
 joins_other : (bond : Bond) (a v : ℕ) → a ≢ bond.first.0 → a ≢ bond.second.0 → joins bond a v ≡ false
-joins_other bond a v first second = rw (other_test bond.first.0 a (λ e. first (sym e)), other_test bond.second.0 a (λ e. second (sym e))) (sym (and_false (bond.first.0 == v)))
+joins_other bond a v first second = rw (ne_eqb bond.first.0 a (λ e. first (sym e)), ne_eqb bond.second.0 a (λ e. second (sym e))) (sym (and_false (bond.first.0 == v)))
 
 are_joined-push : (bonds : List Bond) (bond : Bond) (a v : ℕ) → a ≢ bond.first.0 → a ≢ bond.second.0 → are_joined (bonds ++ bond ∷ []) a v ≡ are_joined bonds a v
 are_joined-push bonds bond a v first second =
-    list_any-append (λ (b : Bond). joins b a v) bonds (bond ∷ []) ∙ ap (λ b. are_joined bonds a v || (b || false)) (joins_other bond a v first second) ∙ or_false (are_joined bonds a v)
+    list_any-append (λ (b : Bond). joins b a v) bonds (bond ∷ []) ∙ ap (λ b. are_joined bonds a v || (b || false)) (joins_other bond a v first second) ∙ or-false (are_joined bonds a v)
 
 are_joined-more : (bonds : List Bond) (bond : Bond) (u v : ℕ) → are_joined bonds u v ≡ true → are_joined (bonds ++ bond ∷ []) u v ≡ true
 are_joined-more bonds bond u v e = list_any-append (λ (b : Bond). joins b u v) bonds (bond ∷ []) ∙ ap (λ b. b || list_any (λ (b : Bond). joins b u v) (bond ∷ [])) e
@@ -219,26 +212,26 @@ pub hold_next : (n : ℕ) (bonds : List Bond) (i : ℕ) (d : Bond) (old new : Li
 hold_next n bonds i d old new all within holds gains =
     rw (take_more bonds i d within) (hold_one_more n (take i bonds) old new (get_or bonds i d) (record { 0 = i }) holds (all i d within) gains)
 
-with_bond-HoldsHalfEdges : (m : Molecule) (old new : List (SmallVec HalfEdge)) (bond : Bond) (id : BondId) → HoldsHalfEdges m old → IsBond (length m.atoms) bond
-    → length new ≡ length old → Gains m.bonds old new bond id → HoldsHalfEdges (with_bond m bond) new
+with_bond-HoldsHalfEdges : (m : Molecule) (old new : List (SmallVec HalfEdge)) (bond : Bond) (id : BondId) → HoldsHalfEdges (length m.atoms) m.bonds old → IsBond (length m.atoms) bond
+    → length new ≡ length old → Gains m.bonds old new bond id → HoldsHalfEdges (length m.atoms) (m.bonds ++ bond ∷ []) new
 with_bond-HoldsHalfEdges m old new bond id holds fits count gains = record {
   count = count ∙ holds.count;
   each = hold_one_more (length m.atoms) m.bonds old new bond id holds.each fits gains;
 }
 
 pub adds_atom : (m : Molecule) (lists more : List (SmallVec HalfEdge)) (atom : Atom) (atoms : List Atom) (centres : List (Option (List Slot))) (capacity : ℕ)
-    → IsMolecule m × HoldsHalfEdges m lists → length m.atoms ≢ 999 → atoms ≡ m.atoms ++ atom ∷ [] → centres ≡ m.centres ++ None ∷ []
+    → IsMolecule m × HoldsHalfEdges (length m.atoms) m.bonds lists → length m.atoms ≢ 999 → atoms ≡ m.atoms ++ atom ∷ [] → centres ≡ m.centres ++ None ∷ []
     → more ≡ lists ++ record { items = []; capacity = capacity } ∷ []
-    → IsMolecule (record m { atoms = atoms; centres = centres }) × HoldsHalfEdges (record m { atoms = atoms; centres = centres }) more
+    → IsMolecule (record m { atoms = atoms; centres = centres }) × HoldsHalfEdges (length atoms) m.bonds more
 adds_atom m lists more atom atoms centres capacity holds room e f g =
     rw (e, f, g) (with_atom-IsMolecule m atom holds.0 room, with_atom-HoldsHalfEdges m lists atom (record { items = []; capacity = capacity }) holds.0 holds.1 refl)
 
 pub adds_bond : (m : Molecule) (old new : List (SmallVec HalfEdge)) (bond : Bond) (id : BondId) (bonds : List Bond) (sides : List (Option Sides))
-    → IsMolecule m × HoldsHalfEdges m old → IsBond (length m.atoms) bond → are_joined m.bonds bond.first.0 bond.second.0 ≡ false
+    → IsMolecule m × HoldsHalfEdges (length m.atoms) m.bonds old → IsBond (length m.atoms) bond → are_joined m.bonds bond.first.0 bond.second.0 ≡ false
     → slice_get m.centres bond.first.0 ≡ Some None → slice_get m.centres bond.second.0 ≡ Some None
     → length m.bonds ≢ 999 → bonds ≡ m.bonds ++ bond ∷ [] → sides ≡ m.sides ++ None ∷ []
     → length new ≡ length old → Gains m.bonds old new bond id
-    → IsMolecule (record m { bonds = bonds; sides = sides }) × HoldsHalfEdges (record m { bonds = bonds; sides = sides }) new
+    → IsMolecule (record m { bonds = bonds; sides = sides }) × HoldsHalfEdges (length m.atoms) bonds new
 adds_bond m old new bond id bonds sides holds fits free first_free second_free room e f count gains =
     rw (e, f) (with_bond-IsMolecule m bond holds.0 fits free first_free second_free room, with_bond-HoldsHalfEdges m old new bond id holds.1 fits count gains)
 
@@ -249,6 +242,6 @@ few_held n bonds lists holds a d h =
     let each : length (get_or lists a d).items ≡ degree (reverse bonds) a = ap (λ (xs : List HalfEdge). length xs) (holds a d h) ∙ length-half_edges_by (reverse bonds) a in
     omega (arith, each, degree_le (reverse bonds) a, length-reverse bonds)
 
-pub few_half_edges : (m : Molecule) (lists : List (SmallVec HalfEdge)) → IsMolecule m × HoldsHalfEdges m lists → (a : ℕ) (d : SmallVec HalfEdge) → a < length m.atoms
+pub few_half_edges : (m : Molecule) (lists : List (SmallVec HalfEdge)) → IsMolecule m × HoldsHalfEdges (length m.atoms) m.bonds lists → (a : ℕ) (d : SmallVec HalfEdge) → a < length m.atoms
     → length (get_or lists a d).items ≤ 999
 few_half_edges m lists holds a d h = omega (arith, few_held (length m.atoms) m.bonds lists holds.1.each a d h, holds.0.few_bonds)

@@ -1,5 +1,7 @@
 -- The half-edges of an atom: how many there are, what one more bond adds, and that they find the joined pairs.
 use Rattle.std.proofs.Common.{◌≡◌, ◌≢◌, ℕ, ◌+◌, ◌≤◌, Bool, true, false, ◌&&◌, ◌||◌, ◌==◌, List, [], ◌∷◌, length, reverse, if◌then◌else◌, ap, ◌∙◌, arith, refl}
+use Rattle.std.proofs.lemmas.Bool.{ne_eqb, eq-eqb}
+use Rattle.std.proofs.Math.Bool.{or-false, or_comm}
 use Rattle.std.specs.List.{All, list_any}
 use Rattle.std.proofs.lemmas.Bool.Decides.{nat_tests}
 use Rattle.std.proofs.lemmas.List.{length-append, reverse-append}
@@ -7,15 +9,12 @@ use Rattle.std.proofs.lemmas.List.Folds.{list_any-append}
 use Rattle.mc_mol.specs.declared.parts.Bond.{Bond}
 use Rattle.mc_mol.specs.declared.parts.HalfEdge.{HalfEdge}
 use Rattle.mc_mol.specs.Molecule.{Molecule, joins, touches, are_joined}
-use Rattle.mc_mol.specs.HalfEdges.{half_edge, half_edges, half_edges_by, degree}
+use Rattle.mc_mol.specs.HalfEdges.{half_edge, half_edges, half_edges_in, half_edges_by, degree}
 use Rattle.mc_mol.specs.WellFormed.{IsBond}
 use Rattle.mc_mol.proofs.Lists.{All-head, All-tail}
 
 pub same_test : (a : ℕ) → (a == a) ≡ true
-same_test a = grind (arith, nat_tests)
-
-pub other_test : (a b : ℕ) → a ≢ b → (a == b) ≡ false
-other_test a b ne = grind (arith, nat_tests)
+same_test a = eq-eqb a a refl
 
 length_if : {A : Type 0} (t : Bool) (x : A) → length (if t then x ∷ [] else []) ≡ (if t then 1 else 0)
 length_if true x = refl
@@ -43,10 +42,10 @@ half_edge-first bond earlier = rw (same_test bond.first.0) refl
 
 pub half_edge-second : (bond : Bond) (earlier : List Bond) → bond.first.0 ≢ bond.second.0 → half_edge bond earlier bond.second.0
     ≡ record { bond = record { 0 = length earlier }; to = bond.first; twin = degree earlier bond.first.0 } ∷ []
-half_edge-second bond earlier different = rw (other_test bond.first.0 bond.second.0 different, same_test bond.second.0) refl
+half_edge-second bond earlier different = rw (ne_eqb bond.first.0 bond.second.0 different, same_test bond.second.0) refl
 
 pub half_edge-other : (bond : Bond) (earlier : List Bond) (a : ℕ) → bond.first.0 ≢ a → bond.second.0 ≢ a → half_edge bond earlier a ≡ []
-half_edge-other bond earlier a first second = rw (other_test bond.first.0 a first, other_test bond.second.0 a second) refl
+half_edge-other bond earlier a first second = rw (ne_eqb bond.first.0 a first, ne_eqb bond.second.0 a second) refl
 
 -- an atom past those of the bonds has none
 pub half_edges_by-none : (bonds : List Bond) (n a : ℕ) → All (IsBond n) bonds → n ≤ a → half_edges_by bonds a ≡ []
@@ -57,10 +56,6 @@ half_edges_by-none (bond ∷ bonds) n a all le =
     let second : bond.second.0 ≢ a = omega (arith, here.second) in
     rw (half_edges_by-none bonds n a (All-tail (IsBond n) bond bonds all) le, half_edge-other bond bonds a first second) refl
 
-pub or_false : (b : Bool) → (b || false) ≡ b
-or_false true = refl
-or_false false = refl
-
 and_true : (b : Bool) → (b || false) ≡ (b && true)
 and_true true = refl
 and_true false = refl
@@ -68,12 +63,6 @@ and_true false = refl
 pub and_false : (b : Bool) → false ≡ (b && false)
 and_false true = refl
 and_false false = refl
-
-pub or_comm : (a b : Bool) → (a || b) ≡ (b || a)
-or_comm true true = refl
-or_comm true false = refl
-or_comm false true = refl
-or_comm false false = refl
 
 finds_by : (bond : Bond) (earlier : List Bond) (u v : ℕ) (p q : Bool) → (bond.first.0 == u) ≡ p → (bond.second.0 == u) ≡ q → u ≢ v
     → list_any (λ (half : HalfEdge). half.to.0 == v) (half_edge bond earlier u) ≡ joins bond u v
@@ -97,8 +86,11 @@ any_reverse : (p : Bond → Bool) (bonds : List Bond) → list_any p (reverse bo
 any_reverse p [] = refl
 any_reverse p (bond ∷ bonds) =
     ap (λ xs. list_any p xs) (reverse-append (bond ∷ []) bonds) ∙ list_any-append p (reverse bonds) (bond ∷ [])
-    ∙ ap (λ b. b || (p bond || false)) (any_reverse p bonds) ∙ ap (λ b. list_any p bonds || b) (or_false (p bond)) ∙ or_comm (list_any p bonds) (p bond)
+    ∙ ap (λ b. b || (p bond || false)) (any_reverse p bonds) ∙ ap (λ b. list_any p bonds || b) (or-false (p bond)) ∙ or_comm (list_any p bonds) (p bond)
 
--- the same of a molecule
+-- the same by the bonds in order, and of a molecule
+pub are_joined-half_edges_in : (bonds : List Bond) (u v : ℕ) → u ≢ v → list_any (λ (half : HalfEdge). half.to.0 == v) (half_edges_in bonds u) ≡ are_joined bonds u v
+are_joined-half_edges_in bonds u v ne = are_joined-half_edges_by (reverse bonds) u v ne ∙ any_reverse (λ bond. joins bond u v) bonds
+
 pub are_joined-half_edges : (m : Molecule) (u v : ℕ) → u ≢ v → list_any (λ (half : HalfEdge). half.to.0 == v) (half_edges m u) ≡ are_joined m.bonds u v
-are_joined-half_edges m u v ne = are_joined-half_edges_by (reverse m.bonds) u v ne ∙ any_reverse (λ bond. joins bond u v) m.bonds
+are_joined-half_edges m u v ne = are_joined-half_edges_in m.bonds u v ne

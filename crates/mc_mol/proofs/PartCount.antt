@@ -1,14 +1,14 @@
 -- How many connected parts there are: as many as a list has entries that holds one atom of each.
-use Rattle.std.proofs.Common.{arith, ◌≡◌, ◌≢◌, ◌∙◌, ◌&&◌, ◌||◌, ◌==◌, ◌+◌, ◌<◌, ◌≤◌, ℕ, zero, suc, Bool, true, false, if◌then◌else◌, List, length, get_or, slice_get, Some, refl, ap, sym, subst, inl, inr}
-use Rattle.std.specs.Prelude.{not}
-use Rattle.std.proofs.lemmas.Bool.{cases_eq}
-use Rattle.std.proofs.lemmas.Option.{slice_get_within, slice_get-get_or}
-use Rattle.mc_base.specs.declared.ids.AtomId.{AtomId}
-use Rattle.mc_mol.specs.declared.parts.Bond.{Bond}
-use Rattle.mc_mol.specs.Parts.{are_connected, some_below, count_below, begins_part, part_count}
-use Rattle.mc_mol.proofs.Halves.{same_test, other_test}
+use Rattle.std.proofs.Common.{Bool, List, Some, ap, arith, false, get_or, if◌then◌else◌, inl, inr, length, refl, slice_get, subst, suc, sym, true, zero, ℕ, ◌&&◌, ◌+◌, ◌<◌, ◌==◌, ◌||◌, ◌∙◌, ◌≡◌, ◌≢◌, ◌≤◌}
 use Rattle.mc_mol.proofs.Labelled.{some_found, count_same}
-use Rattle.mc_mol.proofs.Connected.{Leads, connected_self, connected_back, connected_on}
+use Rattle.std.proofs.lemmas.Bool.{cases_eq, ne_eqb}
+use Rattle.std.proofs.lemmas.Option.{slice_get-get_or, slice_get_within}
+use Rattle.std.specs.Prelude.{not}
+use Rattle.mc_base.specs.declared.ids.AtomId.{AtomId}
+use Rattle.mc_mol.proofs.Connected.{Leads, connected_back, connected_on, connected_self}
+use Rattle.mc_mol.proofs.Halves.{same_test}
+use Rattle.mc_mol.specs.Parts.{are_connected, begins_part, count_below, part_count, some_below}
+use Rattle.mc_mol.specs.declared.parts.Bond.{Bond}
 
 -- ---- counting
 
@@ -25,7 +25,7 @@ not_at q k u same = last (q u) (u == k) (subst (λ (x : ℕ). (u == x) ≡ true)
     last p false is = cc
 
 but_at : (q : ℕ → Bool) (k u : ℕ) → u ≢ k → without q k u ≡ q u
-but_at q k u other = last (q u) (u == k) (other_test u k other)
+but_at q k u other = last (q u) (u == k) (ne_eqb u k other)
   where
     last : (p t : Bool) → t ≡ false → (p && not t) ≡ p
     last true false is = refl

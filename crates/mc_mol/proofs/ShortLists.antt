@@ -1,5 +1,6 @@
 -- The lists of centres as they are kept.
 use Rattle.std.proofs.Common.{arith, ◌≡◌, ◌∙◌, ℕ, zero, suc, ◌<◌, ◌≤◌, true, ◌&&◌, ◌==◌, Contains, inl, inr, List, [], ◌∷◌, Option, Some, None, length, map, replicate, get_or, slice_get, slice_set, refl, sym, ap}
+use Rattle.std.proofs.lemmas.Bool.{or_cases, and_parts, eqb-true}
 use Rattle.std.specs.List.{All}
 use Rattle.std.proofs.lemmas.List.Elements.{Contains-get_or}
 use Rattle.mc_mol.specs.declared.centres.ShortSlot.{ShortSlot}
@@ -9,7 +10,6 @@ use Rattle.mc_mol.specs.declared.parts.Slot.TheVariants.{At, Rest}
 use Rattle.mc_mol.specs.declared.parts.Bond.{Bond}
 use Rattle.mc_mol.specs.Molecule.{joins, are_joined}
 use Rattle.mc_mol.specs.WellFormed.{IsBond, IsPlaceList}
-use Rattle.mc_mol.proofs.Connected.{or_true, and_true, tested}
 use Rattle.mc_mol.proofs.Lists.{four_of, All-head, All-tail}
 
 pub slots_nones : (n : ℕ) → map slots_of (replicate n None) ≡ replicate n None
@@ -59,14 +59,14 @@ set_to lists view i places d p q r s is four e f g h =
     ∙ ap (λ (xs : List Slot). slice_set view i (Some xs)) (rw (e, f, g, h) (sym (four_of places d four)))
 
 below : (bond : Bond) (n a v : ℕ) → IsBond n bond → joins bond a v ≡ true → v < n
-below bond n a v is e = elim (or_true (bond.first.0 == a && bond.second.0 == v) (bond.first.0 == v && bond.second.0 == a) e) [
-  | inl forth ↦ let at = tested bond.second.0 v (and_true (bond.first.0 == a) (bond.second.0 == v) forth).1 in let h = is.second in omega arith
-  | inr back ↦ let at = tested bond.first.0 v (and_true (bond.first.0 == v) (bond.second.0 == a) back).0 in let h = is.first in omega arith
+below bond n a v is e = elim (or_cases (bond.first.0 == a && bond.second.0 == v) (bond.first.0 == v && bond.second.0 == a) e) [
+  | inl forth ↦ let at = eqb-true bond.second.0 v (and_parts (bond.first.0 == a) (bond.second.0 == v) forth).1 in let h = is.second in omega arith
+  | inr back ↦ let at = eqb-true bond.first.0 v (and_parts (bond.first.0 == v) (bond.second.0 == a) back).0 in let h = is.first in omega arith
 ]
 
 joined_below : (bonds : List Bond) (n a v : ℕ) → All (IsBond n) bonds → are_joined bonds a v ≡ true → v < n
 joined_below [] n a v all e = cc
-joined_below (bond ∷ bonds) n a v all e = elim (or_true (joins bond a v) (are_joined bonds a v) e) [
+joined_below (bond ∷ bonds) n a v all e = elim (or_cases (joins bond a v) (are_joined bonds a v) e) [
   | inl here ↦ below bond n a v (All-head (IsBond n) bond bonds all) here
   | inr later ↦ joined_below bonds n a v (All-tail (IsBond n) bond bonds all) later
 ]

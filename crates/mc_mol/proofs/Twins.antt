@@ -1,5 +1,6 @@
 -- Each half-edge has its twin, and each bond has a half-edge at both of its atoms.
 use Rattle.std.proofs.Common.{◌≡◌, ◌≢◌, ℕ, ◌<◌, ◌≤◌, true, ◌&&◌, ◌==◌, List, [], ◌∷◌, ◌++◌, Some, length, reverse, slice_get, subst, sym, ap, ◌∙◌, arith, refl, inl, inr}
+use Rattle.std.proofs.Math.Bool.{or_comm}
 use Rattle.std.specs.List.{All}
 use Rattle.std.proofs.lemmas.Bool.{cases_eq, cases_lt}
 use Rattle.std.proofs.lemmas.Option.{slice_get_within}
@@ -11,7 +12,7 @@ use Rattle.mc_mol.specs.Molecule.{Molecule, joins, touches}
 use Rattle.mc_mol.specs.WellFormed.{IsBond, IsMolecule}
 use Rattle.mc_mol.specs.HalfEdges.{half_edge, half_edges_by, degree, other_end, AllHaveTwins}
 use Rattle.mc_mol.proofs.Lists.{All-head, All-tail, All-reverse, reverse_cons, slice_get-append_left, slice_get-append_seam, slice_get-append_past}
-use Rattle.mc_mol.proofs.Halves.{half_edge-first, half_edge-second, half_edge-other, length-half_edges_by, same_test, or_comm}
+use Rattle.mc_mol.proofs.Halves.{half_edge-first, half_edge-second, half_edge-other, length-half_edges_by, same_test}
 
 -- `HasTwin` by the bonds so far, the latest first
 pub record TwinBy (bonds : List Bond) (atoms : ℕ) (a : AtomId) (place : ℕ) (half : HalfEdge) : Type 0 where
@@ -22,10 +23,10 @@ pub record TwinBy (bonds : List Bond) (atoms : ℕ) (a : AtomId) (place : ℕ) (
   pub joined : joins bond a.0 half.to.0 ≡ true
   pub twin : slice_get (half_edges_by bonds half.to.0) half.twin ≡ Some (record { bond = half.bond; to = a; twin = place })
 
-joins_first : (bond : Bond) → joins bond bond.first.0 bond.second.0 ≡ true
+pub joins_first : (bond : Bond) → joins bond bond.first.0 bond.second.0 ≡ true
 joins_first bond = rw (same_test bond.first.0, same_test bond.second.0) refl
 
-joins_second : (bond : Bond) → joins bond bond.second.0 bond.first.0 ≡ true
+pub joins_second : (bond : Bond) → joins bond bond.second.0 bond.first.0 ≡ true
 joins_second bond = or_comm (bond.first.0 == bond.second.0 && bond.second.0 == bond.first.0) (bond.first.0 == bond.first.0 && bond.second.0 == bond.second.0) ∙ rw (same_test bond.first.0, same_test bond.second.0) refl
 
 number_kept : (bond : Bond) (bonds : List Bond) (k : ℕ) (was : Bond) → slice_get (reverse bonds) k ≡ Some was → slice_get (reverse (bond ∷ bonds)) k ≡ Some was

@@ -3,7 +3,7 @@ use Rattle.std.specs.Prelude.{◌≡◌, ◌≢◌, ℕ, ◌+◌, ◌<◌, true,
 use Rattle.mc_base.specs.declared.ids.AtomId.{AtomId}
 use Rattle.mc_mol.specs.declared.parts.Bond.{Bond}
 use Rattle.mc_mol.specs.declared.parts.HalfEdge.{HalfEdge}
-use Rattle.mc_mol.specs.Molecule.{Molecule, joins, touches}
+use Rattle.mc_mol.specs.Molecule.{Molecule, joins, are_joined, touches}
 
 -- the end of a bond across from an atom that it touches
 abbrev pub other_end : Bond → ℕ → AtomId
@@ -27,8 +27,11 @@ half_edges_by [] a = []
 half_edges_by (bond ∷ earlier) a = half_edges_by earlier a ++ half_edge bond earlier a
 
 -- the half-edges of an atom: one for each bond that touches it, in the order of the bonds' numbers
+abbrev pub half_edges_in : List Bond → ℕ → List HalfEdge
+half_edges_in bonds a = half_edges_by (reverse bonds) a
+
 abbrev pub half_edges : Molecule → ℕ → List HalfEdge
-half_edges m a = half_edges_by (reverse m.bonds) a
+half_edges m a = half_edges_in m.bonds a
 
 -- a half-edge of an atom, at this place of its list: its bond joins the atom to another one, and in that atom's list the
 -- half-edge of the same bond leads back to this place
@@ -43,3 +46,11 @@ pub record HasTwin (m : Molecule) (a : AtomId) (place : ℕ) (half : HalfEdge) :
 -- each half-edge of an atom has its twin
 abbrev pub AllHaveTwins : Molecule → AtomId → Type 0
 AllHaveTwins m a = (place : ℕ) (half : HalfEdge) → slice_get (half_edges m a.0) place ≡ Some half → HasTwin m a place half
+
+-- different half-edges lead to different atoms
+abbrev pub LeadApart : List HalfEdge → Type 0
+LeadApart halves = (i j : ℕ) (g h : HalfEdge) → i ≢ j → slice_get halves i ≡ Some g → slice_get halves j ≡ Some h → g.to.0 ≢ h.to.0
+
+-- each half-edge leads to an atom that is there and joined to this one
+abbrev pub LeadToNeighbours : ℕ → List Bond → ℕ → List HalfEdge → Type 0
+LeadToNeighbours atoms bonds a halves = (place : ℕ) (half : HalfEdge) → slice_get halves place ≡ Some half → (half.to.0 < atoms) × (are_joined bonds a half.to.0 ≡ true)

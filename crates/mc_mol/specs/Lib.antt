@@ -5,5 +5,11 @@ pub mod WellFormed
 pub mod HalfEdges
 pub mod Permutations
 pub mod Stored
-pub mod PartLabels
 pub mod ShortSlots
+pub mod Graphs
+pub mod Numbered
+pub mod Paths
+pub mod ClosedPaths
+pub mod Forests
+pub mod Lows
+pub mod Limits

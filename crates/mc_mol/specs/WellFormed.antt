@@ -1,5 +1,6 @@
 -- Which lists are a molecule (this project's own, after OpenSMILES 1.0, section 3.9: a stereocentre is said by the order of its neighbours).
 use Rattle.std.specs.Prelude.{◌≡◌, ◌≢◌, ℕ, ◌<◌, ◌≤◌, ◌↔◌, true, false, List, Some, length, slice_get, All, AllPairs, Contains}
+use Rattle.mc_mol.specs.declared.limits.TheConstants.{ATOM_LIMIT, BOND_LIMIT}
 use Rattle.mc_mol.specs.declared.parts.Bond.{Bond}
 use Rattle.mc_mol.specs.declared.parts.Sides.{Sides}
 use Rattle.mc_mol.specs.declared.parts.Slot.{Slot}
@@ -33,11 +34,11 @@ pub record IsSides (bonds : List Bond) (bond : Bond) (sides : Sides) : Type 0 wh
 abbrev pub SidesFit : List Bond → ℕ → Sides → Type 0
 SidesFit bonds k sides = (bond : Bond) → slice_get bonds k ≡ Some bond → IsSides bonds bond sides
 
--- at most 999 atoms and bonds; a centre or none for each atom, sides or none for each bond; bonds between atoms of the
+-- no more atoms and bonds than the limits; a centre or none for each atom, sides or none for each bond; bonds between atoms of the
 -- molecule, no pair twice
 pub record IsMolecule (m : Molecule) : Type 0 where
-  pub few_atoms : length m.atoms ≤ 999
-  pub few_bonds : length m.bonds ≤ 999
+  pub few_atoms : length m.atoms ≤ ATOM_LIMIT
+  pub few_bonds : length m.bonds ≤ BOND_LIMIT
   pub centre_count : length m.centres ≡ length m.atoms
   pub side_count : length m.sides ≡ length m.bonds
   pub bonds : All (IsBond (length m.atoms)) m.bonds

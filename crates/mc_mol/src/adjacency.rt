@@ -15,6 +15,7 @@ impl Adjacency {
     ghost use Rattle.mc_mol.specs.declared.parts.HalfEdge.{HalfEdge as Half};
     ghost use Rattle.mc_mol.specs.HalfEdges.{half_edges_by};
     ghost use Rattle.mc_mol.specs.WellFormed.{IsBond};
+    ghost use Rattle.mc_mol.specs.declared.limits.TheConstants.{BOND_LIMIT};
 
     pub fn new(alloc: Global) -> Adjacency
         ensures { result.lists.items ≡ [] }
@@ -38,7 +39,7 @@ impl Adjacency {
 
     /// The lists of so many atoms with these bonds.
     pub fn of_bonds(alloc: Global, atoms: usize, bonds: &[Bond]) -> Result<Adjacency, AllocError>
-        requires few { length bonds.now ≤ 999 }
+        requires few { length bonds.now ≤ BOND_LIMIT }
         requires bonds { All (IsBond atoms) bonds.now }
         ensures count { IfOk result (λ adjacency. length adjacency.lists.items ≡ atoms) }
         ensures each { IfOk result (λ adjacency. (a : ℕ) (d : Items Half) → a < atoms → (slice_index_or adjacency.lists.items a d).items ≡ half_edges_by (reverse bonds.now) a) }

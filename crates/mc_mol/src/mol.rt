@@ -3,13 +3,11 @@ ghost use Rattle.std.specs.List.{list_any};
 
 use crate::adjacency::Adjacency;
 use crate::centres::Centres;
-use crate::{Atom, Bond, HalfEdge, Sides, Slot};
+use crate::limits::{ATOM_LIMIT, BOND_LIMIT};
+use crate::{Atom, Bond, Graph, HalfEdge, Sides, Slot};
 use mc_base::{AtomId, BondId, NoMemory};
 use std::alloc::{AllocError, Global};
 use std::marker::Model;
-
-/// The greatest number of atoms, and of bonds, that a molecule has.
-const MAX_COUNT: usize = 999;
 
 /// Why an atom isn't added.
 #[derive(Clone, Copy, Debug, PartialEq, Eq)]
@@ -60,6 +58,7 @@ pub struct Mol {
 }
 
 impl Model for Mol {
+    ghost use Rattle.std.specs.Prelude.{length};
     ghost use Rattle.mc_mol.specs.Molecule.{Molecule};
     ghost use Rattle.mc_mol.specs.WellFormed.{IsMolecule};
     ghost use Rattle.mc_mol.specs.Stored.{HoldsHalfEdges};
@@ -68,7 +67,7 @@ impl Model for Mol {
 
     ghost view = { λ m. record { atoms = m.atoms.items; bonds = m.bonds.items; centres = m.centres; sides = m.sides.items } };
 
-    ghost invariant = { λ m. IsMolecule (record { atoms = m.atoms.items; bonds = m.bonds.items; centres = m.centres; sides = m.sides.items }) × HoldsHalfEdges (record { atoms = m.atoms.items; bonds = m.bonds.items; centres = m.centres; sides = m.sides.items }) m.adjacency.lists.items };
+    ghost invariant = { λ m. IsMolecule (record { atoms = m.atoms.items; bonds = m.bonds.items; centres = m.centres; sides = m.sides.items }) × HoldsHalfEdges (length m.atoms.items) m.bonds.items m.adjacency.lists.items };
 }
 
 impl Mol {
@@ -76,7 +75,7 @@ impl Mol {
     ghost use Rattle.mc_mol.specs.declared.parts.Bond.{Bond as Joining};
     ghost use Rattle.mc_mol.specs.Molecule.{joins, are_joined};
     ghost use Rattle.mc_mol.specs.WellFormed.{IsBond, IsMolecule, IsPlaceList, SidesFit};
-    ghost use Rattle.mc_mol.specs.HalfEdges.{half_edges, AllHaveTwins};
+    ghost use Rattle.mc_mol.specs.HalfEdges.{half_edges, AllHaveTwins, LeadApart};
 
     /// The molecule with no atoms.
     pub fn new(alloc: Global) -> Mol
@@ -93,8 +92,8 @@ impl Mol {
 
     /// The molecule of these atoms and bonds, without stereo. It keeps the two lists, and fails only for want of memory.
     pub fn of(alloc: Global, atoms: Vec<Atom>, bonds: Vec<Bond>) -> Result<Mol, NoMemory>
-        requires few_atoms { length atoms.items ≤ 999 }
-        requires few_bonds { length bonds.items ≤ 999 }
+        requires few_atoms { length atoms.items ≤ ATOM_LIMIT }
+        requires few_bonds { length bonds.items ≤ BOND_LIMIT }
         requires bonds { All (IsBond (length atoms.items)) bonds.items }
         requires once { AllPairs (λ (b c : Joining). joins b c.first.0 c.second.0 ≡ false) bonds.items }
         ensures { IfOk result (λ mol. mol ≡ record { atoms = atoms.items; bonds = bonds.items; centres = replicate (length atoms.items) None; sides = replicate (length bonds.items) None }) }
@@ -113,7 +112,7 @@ impl Mol {
 
     pub fn atom_count(&self) -> u32
         ensures count { result ≡ length self.now.atoms }
-        ensures few { result ≤ 999 }
+        ensures few { result ≤ ATOM_LIMIT }
         ensures well_formed { IsMolecule self.now }
     {
         self.atoms.len() as u32
@@ -121,7 +120,7 @@ impl Mol {
 
     pub fn bond_count(&self) -> u32
         ensures count { result ≡ length self.now.bonds }
-        ensures few { result ≤ 999 }
+        ensures few { result ≤ BOND_LIMIT }
     {
         self.bonds.len() as u32
     }
@@ -141,10 +140,17 @@ impl Mol {
         self.bonds[b.0 as usize]
     }
 
+    /// The atoms as far as they are joined.
+    pub fn graph(&self) -> Graph<'_>
+        ensures { result ≡ record { atoms = length self.now.atoms; bonds = self.now.bonds } }
+    {
+        Graph::new(&self.bonds, &self.adjacency.lists)
+    }
+
     /// All bonds, in the order of their numbers.
     pub fn bonds(&self) -> &[Bond]
         ensures value { result.now ≡ self.now.bonds }
-        ensures few { length result.now ≤ 999 }
+        ensures few { length result.now ≤ BOND_LIMIT }
         ensures well_formed { All (IsBond (length self.now.atoms)) result.now }
     {
         &self.bonds
@@ -154,6 +160,7 @@ impl Mol {
         requires { a.0 < length self.now.atoms }
         ensures value { result.now ≡ half_edges self.now a.0 }
         ensures twins { AllHaveTwins self.now a }
+        ensures apart { LeadApart result.now }
     {
         self.adjacency.of(a.0 as usize)
     }
@@ -161,10 +168,10 @@ impl Mol {
     pub fn add_atom(&mut self, atom: Atom) -> Result<AtomId, AddAtom>
         ensures ok { IfOk result (λ id. (id.0 ≡ length self.old.atoms) × (self.new ≡ record self.old { atoms = self.old.atoms ++ atom ∷ []; centres = self.old.centres ++ None ∷ [] })) }
         ensures err { OnErr result (self.new ≡ self.old) }
-        ensures limit { (result ≡ Err AddAtom.Limit) ↔ (length self.old.atoms ≡ 999) }
+        ensures limit { (result ≡ Err AddAtom.Limit) ↔ (length self.old.atoms ≡ ATOM_LIMIT) }
     {
         let count = self.atoms.len();
-        if count == MAX_COUNT {
+        if count == ATOM_LIMIT {
             return Err(AddAtom::Limit);
         }
         self.atoms.reserve(1)?;
@@ -188,7 +195,7 @@ impl Mol {
         ensures err { OnErr result (self.new ≡ self.old) }
         ensures same { (result ≡ Err AddBond.Same) ↔ (first.0 ≡ second.0) }
         ensures twice { (result ≡ Err AddBond.Twice) ↔ ((first.0 ≢ second.0) × (are_joined self.old.bonds first.0 second.0 ≡ true)) }
-        ensures limit { (result ≡ Err AddBond.Limit) ↔ ((first.0 ≢ second.0) × (are_joined self.old.bonds first.0 second.0 ≡ false) × (length self.old.bonds ≡ 999)) }
+        ensures limit { (result ≡ Err AddBond.Limit) ↔ ((first.0 ≢ second.0) × (are_joined self.old.bonds first.0 second.0 ≡ false) × (length self.old.bonds ≡ BOND_LIMIT)) }
     {
         if first.0 == second.0 {
             return Err(AddBond::Same);
@@ -197,7 +204,7 @@ impl Mol {
             return Err(AddBond::Twice);
         }
         let count = self.bonds.len();
-        if count == MAX_COUNT {
+        if count == BOND_LIMIT {
             return Err(AddBond::Limit);
         }
         self.bonds.reserve(1)?;

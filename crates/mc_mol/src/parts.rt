@@ -19,6 +19,19 @@ pub struct Bond {
     pub order: u8,
 }
 
+impl Bond {
+    ghost use Rattle.std.specs.Prelude.{◌≡◌};
+    ghost use Rattle.mc_mol.specs.Molecule.{joins};
+
+    /// Whether the bond is between these two atoms.
+    pub fn joins(self, u: AtomId, v: AtomId) -> bool
+        ensures { result ≡ joins self u.0 v.0 }
+    {
+        (self.first.0 == u.0 && self.second.0 == v.0)
+            || (self.first.0 == v.0 && self.second.0 == u.0)
+    }
+}
+
 /// A bond as one of its atoms sees it: the bond, the other atom, and the place of the same bond in
 /// the list of the other atom.
 #[derive(Clone, Copy, Debug, PartialEq, Eq)]

@@ -1,6 +1,7 @@
 ghost use Rattle.std.specs.Prelude.{◌≡◌, ℕ, ◌+◌, ◌*◌, ◌≤◌, ◌<◌, IfOk, All, length, get_or, ◌==◌, if◌then◌else◌};
 ghost use Rattle.mc_mol.specs.Molecule.{bond_sum};
 ghost use Rattle.mc_mol.specs.WellFormed.{IsBond};
+ghost use Rattle.mc_mol.specs.declared.limits.TheConstants.{ATOM_LIMIT, BOND_LIMIT};
 
 use crate::Bond;
 use std::alloc::{AllocError, Global};
@@ -17,8 +18,8 @@ fn add(sums: &mut [u32], atom: u32, order: u8)
 
 /// The sum of the orders of each atom's bonds.
 pub fn bond_sums(alloc: Global, bonds: &[Bond], atoms: usize) -> Result<Vec<u32>, AllocError>
-    requires few_atoms { atoms ≤ 999 }
-    requires few_bonds { length bonds.now ≤ 999 }
+    requires few_atoms { atoms ≤ ATOM_LIMIT }
+    requires few_bonds { length bonds.now ≤ BOND_LIMIT }
     requires bonds { All (IsBond atoms) bonds.now }
     ensures count { IfOk result (λ sums. length sums.items ≡ atoms) }
     ensures each { IfOk result (λ sums. (k : ℕ) → get_or sums.items k 0 ≡ bond_sum bonds.now k) }

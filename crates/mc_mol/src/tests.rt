@@ -132,30 +132,101 @@ fn a_molecule_of_atoms_and_bonds(rt: HostRuntime) -> Result<(), Fail> {
     Ok(())
 }
 
+/// A molecule of so many carbons with single bonds between these.
+fn molecule(alloc: Global, count: u32, ends: &[(u32, u32)]) -> Result<Mol, AddAtom> {
+    let mut mol = atoms(alloc, count)?;
+    for (u, v) in ends {
+        let _ = add(&mut mol, *u, *v, 1);
+    }
+    Ok(mol)
+}
+
+/// The numbers of connected parts and of independent rings, and which bonds lie on a closed path.
+fn rings(alloc: Global, count: u32, ends: &[(u32, u32)]) -> Result<(u32, u32, Vec<bool>), AddAtom> {
+    let mol = molecule(alloc, count, ends)?;
+    let parts = part_count(alloc, &mol.graph())?;
+    let rings = independent_rings(alloc, mol.bonds(), mol.atom_count())?;
+    let marks = bonds_on_closed_paths(alloc, &mol.graph())?;
+    Ok((parts, rings, marks))
+}
+
+// Bond 3 joins the two rings.
 #[test]
 fn two_rings_joined_by_a_bond(rt: HostRuntime) -> Result<(), Fail> {
-    let bonds = [
-        bond(0, 1),
-        bond(1, 2),
-        bond(2, 0),
-        bond(2, 3),
-        bond(3, 4),
-        bond(4, 5),
-        bond(5, 3),
-    ];
-    assert_eq!(rt; independent_rings(rt.alloc(), &bonds, 6)?, 2);
+    let ends = [(0, 1), (1, 2), (2, 0), (2, 3), (3, 4), (4, 5), (5, 3)];
+    let (parts, rings, marks) = rings(rt.alloc(), 6, &ends)?;
+    assert_eq!(rt; parts, 1);
+    assert_eq!(rt; rings, 2);
+    assert!(rt; marks.as_slice() == [true, true, true, false, true, true, true].as_slice());
     Ok(())
 }
 
 #[test]
 fn a_ring_and_a_chain_apart(rt: HostRuntime) -> Result<(), Fail> {
-    let bonds = [bond(5, 3), bond(1, 2), bond(0, 1), bond(0, 2)];
-    assert_eq!(rt; independent_rings(rt.alloc(), &bonds, 6)?, 1);
+    let ends = [(5, 3), (1, 2), (0, 1), (0, 2)];
+    let (parts, rings, marks) = rings(rt.alloc(), 6, &ends)?;
+    assert_eq!(rt; parts, 3);
+    assert_eq!(rt; rings, 1);
+    assert!(rt; marks.as_slice() == [false, true, true, true].as_slice());
+    Ok(())
+}
+
+// A ring with a bond across, and a tail that leads from a ring into nothing.
+#[test]
+fn a_bond_across_a_ring_and_a_tail(rt: HostRuntime) -> Result<(), Fail> {
+    let ends = [(0, 1), (1, 2), (2, 3), (3, 0), (0, 2), (3, 4), (4, 5)];
+    let (parts, rings, marks) = rings(rt.alloc(), 6, &ends)?;
+    assert_eq!(rt; parts, 1);
+    assert_eq!(rt; rings, 2);
+    assert!(rt; marks.as_slice() == [true, true, true, true, true, false, false].as_slice());
     Ok(())
 }
 
 #[test]
 fn no_atoms_have_no_rings(rt: HostRuntime) -> Result<(), Fail> {
-    assert_eq!(rt; independent_rings(rt.alloc(), &[], 0)?, 0);
+    let (parts, rings, marks) = rings(rt.alloc(), 0, &[])?;
+    assert_eq!(rt; parts, 0);
+    assert_eq!(rt; rings, 0);
+    assert_eq!(rt; marks.len(), 0);
+    Ok(())
+}
+
+#[test]
+fn limits_of_an_atom(rt: HostRuntime) -> Result<(), Fail> {
+    let methane = Atom {
+        hydrogens: 4,
+        ..carbon()
+    };
+    assert!(rt; !methane.is_over(10));
+    assert!(rt; methane.is_over(11));
+    assert!(rt; !methane.is_hydrogen_with_more());
+    let hydrogen = Atom {
+        element: Element::H,
+        hydrogens: 1,
+        ..carbon()
+    };
+    assert!(rt; hydrogen.is_hydrogen_with_more());
+    Ok(())
+}
+
+#[test]
+fn drawings_and_marks_hold_what_is_added(rt: HostRuntime) -> Result<(), Fail> {
+    let alloc = rt.alloc();
+    let origin = Point { x: 0, y: 0 };
+    let beside = Point { x: -15000, y: 8660 };
+    let mut drawing = Drawing::new(alloc);
+    drawing.push(origin).ok().ok_or("memory")?;
+    drawing.push(beside).ok().ok_or("memory")?;
+    assert_eq!(rt; drawing.len(), 2);
+    assert!(rt; drawing.as_slice() == [origin, beside].as_slice());
+    let points = drawing.into_vec();
+    assert!(rt; Drawing::from_vec(points).as_slice() == [origin, beside].as_slice());
+    let mut marks = Marks::new(alloc);
+    marks.push(None).ok().ok_or("memory")?;
+    marks.push(Some(true)).ok().ok_or("memory")?;
+    assert_eq!(rt; marks.len(), 2);
+    assert!(rt; marks.as_slice() == [None, Some(true)].as_slice());
+    let list = marks.into_vec();
+    assert!(rt; Marks::from_vec(list).as_slice() == [None, Some(true)].as_slice());
     Ok(())
 }

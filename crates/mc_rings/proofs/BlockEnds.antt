@@ -1,21 +1,25 @@
 -- The ends of the bonds of a block: each is the block's first atom or has the block above it.
-use Rattle.std.proofs.Common.{◌≡◌, ◌≢◌, ◌∙◌, ℕ, zero, suc, ◌<◌, ◌≤◌, true, List, Option, Some, None, slice_get, subst, sym, ap, arith, refl, inl, inr}
-use Rattle.std.proofs.lemmas.Option.{slice_get_within}
+use Rattle.std.proofs.Common.{List, None, Option, Some, ap, arith, inl, inr, refl, slice_get, subst, suc, sym, true, zero, ℕ, ◌<◌, ◌∙◌, ◌≡◌, ◌≢◌, ◌≤◌}
+use Rattle.std.proofs.lemmas.Option.{slice_get_within, same_Some}
 use Rattle.mc_base.specs.declared.ids.AtomId.{AtomId}
-use Rattle.mc_mol.specs.declared.parts.Bond.{Bond}
+use Rattle.mc_mol.proofs.Climbs.{IsRooted, Rooted, later_up, up_earlier}
+use Rattle.mc_mol.proofs.LeastPlaces.{one_mark}
+use Rattle.mc_mol.proofs.Neighbours.{joined_back, joined_ends}
+use Rattle.mc_mol.proofs.Numbered.{made}
+use Rattle.mc_mol.proofs.Roots.{above_trans, one_parent, parent_cases, same_listed}
+use Rattle.mc_mol.specs.Forests.{IsAbove, IsForest, IsLater, Parent, Up}
+use Rattle.mc_mol.specs.Lows.{Rises}
 use Rattle.mc_mol.specs.Molecule.{are_joined}
-use Rattle.mc_mol.proofs.Halves.{same_test}
-use Rattle.mc_rings.specs.Distances.{Mark}
-use Rattle.mc_rings.specs.Forests.{Parent, Up, IsAbove, IsForest}
-use Rattle.mc_rings.specs.Blocks.{Rises, Hangs, Blocked, IsLater, LowerEnd, BlockOf, Tree, IsTree, IsFirst, IsEnd}
-use Rattle.mc_rings.proofs.Levels.{made, joined_at}
-use Rattle.mc_rings.proofs.RingSizes.{joined_back}
-use Rattle.mc_rings.proofs.Forests.{same_option}
-use Rattle.mc_rings.proofs.Parts.{above_trans, same_listed, parent_cases, joined_ends}
-use Rattle.mc_rings.proofs.LeastPlaces.{one_mark}
+use Rattle.mc_mol.specs.Numbered.{Mark}
+use Rattle.mc_mol.specs.declared.parts.Bond.{Bond}
+use Rattle.mc_rings.specs.Blocks.{BlockOf, Blocked, Hangs, IsEnd, IsFirst, IsTree, LowerEnd, Tree}
 
-pub bond_joined : (bonds : List Bond) (k : ℕ) (bond : Bond) → slice_get bonds k ≡ Some bond → are_joined bonds bond.first.0 bond.second.0 ≡ true
-bond_joined bonds k bond at = joined_at bonds k bond bond.first.0 bond.second.0 at (rw (same_test bond.first.0, same_test bond.second.0) refl)
+-- the forest of a tree of blocks
+abbrev pub rooted : Tree → Rooted
+rooted t = record { bonds = t.bonds; atoms = t.atoms; order = t.order; places = t.places; parents = t.parents; roots = t.roots }
+
+pub is_rooted : (t : Tree) → IsTree t → IsRooted (rooted t)
+is_rooted t is = record { forest = is.forest }
 
 pub later_there : (bonds : List Bond) (n : ℕ) (order : List AtomId) (places : List (Option ℕ)) (parents : List (Option AtomId)) (roots : List AtomId) → IsForest bonds n order places parents roots
     → (u v a b : ℕ) → u < n → v < n → ((i : ℕ) → Mark places u i → a ≡ i) → ((i : ℕ) → Mark places v i → b ≡ i) → a < b → IsLater places u v
@@ -31,15 +35,6 @@ later_else bonds n order places parents roots is u v a b u_in v_in other at_u at
     let f = at_v j.0 j.1 in
     let differ : i.0 ≢ j.0 = λ same. other (same_listed bonds n order places parents roots is.found u v i.0 j.0 i.1 j.1 same) in
     (j.0, i.0, j.1, i.1, omega arith)
-
--- the later of two joined atoms goes up to the other one, and has a parent
-pub later_up : (bonds : List Bond) (n : ℕ) (order : List AtomId) (places : List (Option ℕ)) (parents : List (Option AtomId)) (roots : List AtomId) → IsForest bonds n order places parents roots
-    → (u v : ℕ) → are_joined bonds u v ≡ true → IsLater places u v → (k : ℕ) × (Up parents (suc k) v u)
-later_up bonds n order places parents roots is u v joined (i, j, at_u, at_v, less) = cases (is.found.related u v i j at_u at_v less joined)
-  where
-    cases : IsAbove parents u v → (k : ℕ) × (Up parents (suc k) v u)
-    cases (zero, same) = absurd (let e = one_mark places u i j at_u (subst (λ (m : ℕ). Mark places m j) same at_v) in omega arith)
-    cases (suc k, up) = (k, up)
 
 -- each atom with a parent has its block
 pub block_at : (t : Tree) → IsTree t → (x p : ℕ) → Parent t.parents x p → (k : ℕ) × (Mark t.above x k) × (Hangs t.bonds t.places t.parents t.heads t.firsts t.above x p k)
@@ -63,7 +58,7 @@ pub lower_end : (places above : List (Option ℕ)) (u v k : ℕ) → IsLater pla
 lower_end places above u v k (i, j, at_u, at_v, less) has = record { first = i; second = j; at_first = at_u; at_second = at_v; later = less; has = has }
 
 pub one_first : (t : Tree) (k a b : ℕ) → IsFirst t k a → IsFirst t k b → a ≡ b
-one_first t k a b e f = ap (λ (x : AtomId). x.0) (same_option (made a) (made b) (sym e ∙ f))
+one_first t k a b e f = ap (λ (x : AtomId). x.0) (same_Some (made a) (made b) (sym e ∙ f))
 
 -- an atom with a block above it is found, and has a parent
 pub placed_of : (t : Tree) → IsTree t → (x k : ℕ) → Mark t.above x k → (i : ℕ) × (Mark t.places x i)
@@ -76,21 +71,6 @@ parent_of t is x k at =
       | inl none ↦ absurd (let root = is.blocked.root x i.0 i.1 none in cc)
       | inr some ↦ some
     ]
-
--- ancestors are found earlier
-pub up_earlier : (t : Tree) → IsTree t → (m x a i j : ℕ) → Up t.parents (suc m) x a → Mark t.places x i → Mark t.places a j → j < i
-up_earlier t is zero x a i j (p, parent, same) at_x at_a =
-    let child = is.forest.found.parent x p parent in
-    let e = one_mark t.places x i child.place at_x child.placed in
-    let f = one_mark t.places p child.above j child.placed_above (subst (λ (k : ℕ). Mark t.places k j) (sym same) at_a) in
-    let less = child.earlier in
-    omega arith
-up_earlier t is (suc m) x a i j (p, parent, up) at_x at_a =
-    let child = is.forest.found.parent x p parent in
-    let e = one_mark t.places x i child.place at_x child.placed in
-    let rest = up_earlier t is m p a child.above j up child.placed_above at_a in
-    let less = child.earlier in
-    omega arith
 
 -- a bond from below leads up to v: all bonds of the tree on the way have one block, and v is an end of it
 pub ends_up : (t : Tree) → IsTree t → (m y u v k : ℕ) → Up t.parents (suc m) y v → IsAbove t.parents y u → are_joined t.bonds u v ≡ true → Mark t.above y k → IsEnd t k v
@@ -110,13 +90,19 @@ ends_up t is (suc m) y u v k (p, parent, up) below joined at =
     child_place : (i : ℕ) × (Mark t.places p i)
     child_place = let child = is.forest.found.parent y p parent in (child.above, child.placed_above)
 
+    higher : (j : ℕ) → Mark t.places v j → v ≢ p
+    higher j at_v same =
+        let less = up_earlier (rooted t) (is_rooted t is) m p v child_place.0 j up child_place.1 at_v in
+        let e = one_mark t.places v j child_place.0 at_v (subst (λ (n : ℕ). Mark t.places n child_place.0) (sym same) child_place.1) in
+        omega arith
+
     rising : (j : ℕ) × (Mark t.places v j) → Rises t.bonds t.places t.parents y p
     rising (j, at_v) = record {
       low = j;
       above = child_place.0;
-      from = record { from = u; to = v; below = below; joined = joined; at = at_v };
+      from = record { from = u; to = v; below = below; joined = joined; at = at_v; other = λ own to_parent. higher j at_v (one_parent t.parents y v p to_parent parent) };
       at = child_place.1;
-      earlier = up_earlier t is m p v child_place.0 j up child_place.1 at_v;
+      earlier = up_earlier (rooted t) (is_rooted t is) m p v child_place.0 j up child_place.1 at_v;
     }
 
     cases : (Mark t.above p k → IsEnd t k v) → {l : ℕ} → l ≡ k → Hangs t.bonds t.places t.parents t.heads t.firsts t.above y p l → IsEnd t k v

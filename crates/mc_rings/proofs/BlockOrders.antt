@@ -1,38 +1,40 @@
 -- The block order of a molecule.
-use Rattle.std.proofs.Common.{◌≡◌, ◌≢◌, ◌∙◌, ℕ, zero, suc, ◌+◌, ◌<◌, ◌≤◌, ◌⊎◌, ◌↔◌, ◌||◌, ◌==◌, Bool, true, false, if◌then◌else◌, List, [], ◌∷◌, Option, Some, None, length, get_or, slice_get, subst, sym, ap, arith, refl, inl, inr}
-use Rattle.std.specs.List.Sorted.{IsPermutation, IsNonDecreasingBy}
-use Rattle.std.proofs.lemmas.Bool.{cases_eq, cases_lt}
+use Rattle.std.proofs.Common.{Bool, List, None, Option, Some, [], ap, arith, false, get_or, if◌then◌else◌, inl, inr, length, refl, slice_get, subst, suc, sym, true, zero, ℕ, ◌+◌, ◌<◌, ◌==◌, ◌||◌, ◌↔◌, ◌∙◌, ◌∷◌, ◌≡◌, ◌≢◌, ◌≤◌, ◌⊎◌}
+use Rattle.std.proofs.Math.Bool.{or-true}
+use Rattle.std.proofs.lemmas.Bool.{cases_eq, cases_lt, or_cases, eqb-true, ne_eqb}
 use Rattle.std.proofs.lemmas.Bool.Decides.{nat_tests}
-use Rattle.std.proofs.lemmas.Option.{slice_get_within, slice_get-get_or, get_or_from_slice_get}
-use Rattle.std.proofs.lemmas.List.Sums.{sum_by_from}
 use Rattle.std.proofs.lemmas.List.Sorted.{length_permutation, sum_by-IsPermutation}
+use Rattle.std.proofs.lemmas.List.Sums.{sum_by_from}
+use Rattle.std.proofs.lemmas.Option.{get_or_from_slice_get, slice_get-get_or, slice_get_within, same_Some}
+use Rattle.std.specs.List.Sorted.{IsNonDecreasingBy, IsPermutation}
 use Rattle.mc_base.specs.declared.ids.AtomId.{AtomId}
+use Rattle.mc_mol.proofs.Apart.{joins_cases}
+use Rattle.mc_mol.proofs.Connected.{Leads, connected_back}
+use Rattle.mc_mol.proofs.Halves.{same_test}
+use Rattle.mc_mol.proofs.LeastPlaces.{one_mark}
+use Rattle.mc_mol.proofs.Neighbours.{bond_joined, bond_number}
+use Rattle.mc_mol.proofs.Numbered.{made}
+use Rattle.mc_mol.proofs.Roots.{TopOf, order_full, parent_cases, same_top, top_connected, top_of, up_connected}
+use Rattle.mc_mol.specs.Forests.{Parent}
+use Rattle.mc_mol.specs.Molecule.{touches}
+use Rattle.mc_mol.specs.Numbered.{Mark}
+use Rattle.mc_mol.specs.Parts.{are_connected}
 use Rattle.mc_mol.specs.declared.parts.Atom.{Atom}
 use Rattle.mc_mol.specs.declared.parts.Bond.{Bond}
 use Rattle.mc_mol.specs.declared.parts.Sides.{Sides}
 use Rattle.mc_mol.specs.declared.parts.Slot.{Slot}
-use Rattle.mc_mol.specs.Molecule.{joins, are_joined, touches}
-use Rattle.mc_mol.specs.Parts.{are_connected}
-use Rattle.mc_mol.proofs.Halves.{same_test, other_test}
-use Rattle.mc_mol.proofs.Connected.{Leads, connected_back}
-use Rattle.mc_rings.specs.Distances.{Mark}
-use Rattle.mc_rings.specs.Forests.{Parent}
-use Rattle.mc_rings.specs.Blocks.{BlockOf, Tree, IsTree, IsEnd, block_key}
-use Rattle.mc_rings.specs.Counts.{AreBelow}
-use Rattle.mc_rings.specs.BlockOrder.{times, EndOfBlock, IsBlockOrder}
-use Rattle.mc_rings.proofs.Levels.{made}
-use Rattle.mc_rings.proofs.Forests.{same_option, or_cases, joins_cases}
-use Rattle.mc_rings.proofs.Parts.{TopOf, same_top, top_of, top_connected, up_connected, parent_cases, order_full}
-use Rattle.mc_rings.proofs.LeastPlaces.{one_mark}
-use Rattle.mc_rings.proofs.BlockEnds.{bond_joined, one_first, block_at, parent_of, block_ends}
+use Rattle.mc_rings.proofs.BlockEnds.{block_at, block_ends, one_first, parent_of}
 use Rattle.mc_rings.proofs.OneBlock.{one_block, swapped}
+use Rattle.mc_rings.specs.BlockOrder.{EndOfBlock, IsBlockOrder, times}
+use Rattle.mc_rings.specs.Blocks.{BlockOf, IsEnd, IsTree, Tree, block_key}
+use Rattle.mc_rings.specs.Counts.{AreBelow}
 
 -- how often an atom stands in a list
 times_same : (a : AtomId) (xs : List AtomId) (x : ℕ) → a.0 ≡ x → times x (a ∷ xs) ≡ 1 + times x xs
 times_same a xs x same = sum_by_from (λ (b : AtomId). if b.0 == x then 1 else 0) (0 + (if a.0 == x then 1 else 0)) xs ∙ ap (λ (b : Bool). (0 + (if b then 1 else 0)) + times x xs) (subst (λ (n : ℕ). (a.0 == n) ≡ true) same (same_test a.0))
 
 times_other : (a : AtomId) (xs : List AtomId) (x : ℕ) → a.0 ≢ x → times x (a ∷ xs) ≡ 0 + times x xs
-times_other a xs x other = sum_by_from (λ (b : AtomId). if b.0 == x then 1 else 0) (0 + (if a.0 == x then 1 else 0)) xs ∙ ap (λ (b : Bool). (0 + (if b then 1 else 0)) + times x xs) (other_test a.0 x other)
+times_other a xs x other = sum_by_from (λ (b : AtomId). if b.0 == x then 1 else 0) (0 + (if a.0 == x then 1 else 0)) xs ∙ ap (λ (b : Bool). (0 + (if b then 1 else 0)) + times x xs) (ne_eqb a.0 x other)
 
 not_times : (xs : List AtomId) (x : ℕ) → ((i : ℕ) → slice_get xs i ≡ Some (made x) → ⊥) → times x xs ≡ 0
 not_times [] x none = refl
@@ -45,7 +47,7 @@ one_time : (xs : List AtomId) (x i : ℕ) → slice_get xs i ≡ Some (made x) �
 one_time [] x i at only = cc
 one_time (a ∷ xs) x zero at only =
     let rest = not_times xs x (λ j e. let h = only (suc j) e in omega arith) in
-    let here = times_same a xs x (ap (λ (b : AtomId). b.0) (same_option a (made x) at)) in
+    let here = times_same a xs x (ap (λ (b : AtomId). b.0) (same_Some a (made x) at)) in
     omega arith
 one_time (a ∷ xs) x (suc i) at only =
     let rest = one_time xs x i at (λ j e. let h = only (suc j) e in omega arith) in
@@ -54,7 +56,7 @@ one_time (a ∷ xs) x (suc i) at only =
 
 some_time : (xs : List AtomId) (x i : ℕ) → slice_get xs i ≡ Some (made x) → 1 ≤ times x xs
 some_time [] x i at = cc
-some_time (a ∷ xs) x zero at = let here = times_same a xs x (ap (λ (b : AtomId). b.0) (same_option a (made x) at)) in omega arith
+some_time (a ∷ xs) x zero at = let here = times_same a xs x (ap (λ (b : AtomId). b.0) (same_Some a (made x) at)) in omega arith
 some_time (a ∷ xs) x (suc i) at = elim (cases_eq a.0 x) [
   | inl same ↦ (let here = times_same a xs x same in omega arith)
   | inr differ ↦ (let rest = some_time xs x i at in let other = times_other a xs x differ in omega arith)
@@ -65,7 +67,7 @@ two_times [] x i j less at_i at_j = cc
 two_times (a ∷ xs) x i zero less at_i at_j = absurd (omega arith)
 two_times (a ∷ xs) x zero (suc j) less at_i at_j =
     let rest = some_time xs x j at_j in
-    let here = times_same a xs x (ap (λ (b : AtomId). b.0) (same_option a (made x) at_i)) in
+    let here = times_same a xs x (ap (λ (b : AtomId). b.0) (same_Some a (made x) at_i)) in
     omega arith
 two_times (a ∷ xs) x (suc i) (suc j) less at_i at_j = elim (cases_eq a.0 x) [
   | inl same ↦ (let here = times_same a xs x same in let rest = two_times xs x i j (omega arith) at_i at_j in omega arith)
@@ -82,29 +84,14 @@ stands (a ∷ xs) x some = elim (cases_eq a.0 x) [
       (suc rest.0, rest.1)
 ]
 
--- the bond of joined atoms
-pub bond_number : (bonds : List Bond) (u v : ℕ) → are_joined bonds u v ≡ true → (number : ℕ) × (bond : Bond) × (slice_get bonds number ≡ Some bond) × (joins bond u v ≡ true)
-bond_number [] u v e = cc
-bond_number (bond ∷ bonds) u v e = elim (or_cases (joins bond u v) (are_joined bonds u v) e) [
-  | inl here ↦ (0, bond, refl, here)
-  | inr there ↦ let rest = bond_number bonds u v there in (suc rest.0, rest.1, rest.2, rest.3)
-]
-
-or_right : (p : Bool) → (p || true) ≡ true
-or_right true = refl
-or_right false = refl
-
 touches_first : (bond : Bond) (x : ℕ) → bond.first.0 ≡ x → touches bond x ≡ true
 touches_first bond x e = rw (e, same_test x) refl
 
 touches_second : (bond : Bond) (x : ℕ) → bond.second.0 ≡ x → touches bond x ≡ true
-touches_second bond x e = rw (e, same_test x) (or_right (bond.first.0 == x))
-
-same_of : (a b : ℕ) → (a == b) ≡ true → a ≡ b
-same_of a b e = grind (arith, nat_tests)
+touches_second bond x e = rw (e, same_test x) (or-true (bond.first.0 == x))
 
 touched_cases : (bond : Bond) (x : ℕ) → touches bond x ≡ true → (bond.first.0 ≡ x) ⊎ (bond.second.0 ≡ x)
-touched_cases bond x e = elim (or_cases (bond.first.0 == x) (bond.second.0 == x) e) [ inl here ↦ inl (same_of bond.first.0 x here) | inr there ↦ inr (same_of bond.second.0 x there) ]
+touched_cases bond x e = elim (or_cases (bond.first.0 == x) (bond.second.0 == x) e) [ inl here ↦ inl (eqb-true bond.first.0 x here) | inr there ↦ inr (eqb-true bond.second.0 x there) ]
 
 -- a tree with the block of each bond
 pub record Numbered (t : Tree) (blocks : List ℕ) : Type 0 where
@@ -280,6 +267,7 @@ pub order_of : (t : Tree) (atoms : List Atom) (centres : List (Option (List Slot
     → Sorted t order → IsBlockOrder (record { atoms = atoms; bonds = t.bonds; centres = centres; sides = sides }) blocks order t.firsts t.above
 order_of t atoms centres sides blocks order count n s = record {
   count = let a = length_permutation t.order order s.permuted in let b = order_full t.bonds t.atoms t.order t.places t.parents t.roots n.is.forest in omega arith;
+  within = λ i x at. let h = order_within t n.is order s.permuted i x at in omega arith;
   once = λ x within. once_in t n.is order s.permuted x (omega arith);
   below_count = are_below t n.is blocks n.count n.each;
   first_end = λ block a at.

@@ -1,19 +1,19 @@
 -- The steps by which atoms get their blocks.
-use Rattle.std.proofs.Common.{◌≡◌, ◌≢◌, ◌∙◌, ℕ, ◌+◌, ◌<◌, ◌≤◌, ◌⊎◌, Bool, List, [], ◌∷◌, ◌++◌, Option, Some, None, length, slice_get, slice_set, replicate, subst, sym, ap, arith, refl, inl, inr}
-use Rattle.std.specs.Prelude.{IsTrue}
+use Rattle.std.proofs.Common.{Bool, List, None, Option, Some, [], ap, arith, inl, inr, length, refl, replicate, slice_get, slice_set, subst, sym, ℕ, ◌++◌, ◌+◌, ◌<◌, ◌∙◌, ◌∷◌, ◌≡◌, ◌≢◌, ◌≤◌, ◌⊎◌}
 use Rattle.std.proofs.lemmas.Bool.{cases_lt}
-use Rattle.std.proofs.lemmas.Option.{slice_get_within}
 use Rattle.std.proofs.lemmas.List.{length-append}
+use Rattle.std.proofs.lemmas.Option.{slice_get_within, same_Some}
+use Rattle.std.specs.Prelude.{IsTrue}
 use Rattle.mc_base.specs.declared.ids.AtomId.{AtomId}
+use Rattle.mc_mol.proofs.LeastPlaces.{one_mark}
+use Rattle.mc_mol.proofs.Lists.{length-slice_set, slice_get-append_left, slice_get-append_past, slice_get-append_seam}
+use Rattle.mc_mol.proofs.Numbered.{free_at, length-none, made, mark_from, mark_kept, none_marked, set_here, set_other}
+use Rattle.mc_mol.proofs.Roots.{same_listed}
+use Rattle.mc_mol.specs.Forests.{IsForest, Parent}
+use Rattle.mc_mol.specs.Lows.{Rises}
+use Rattle.mc_mol.specs.Numbered.{Mark}
 use Rattle.mc_mol.specs.declared.parts.Bond.{Bond}
-use Rattle.mc_mol.proofs.Lists.{slice_get-append_left, slice_get-append_seam, slice_get-append_past, length-slice_set}
-use Rattle.mc_rings.specs.Distances.{Mark}
-use Rattle.mc_rings.specs.Forests.{Parent, IsForest}
-use Rattle.mc_rings.specs.Blocks.{Rises, Hangs, HeadOf, Blocked, Begins}
-use Rattle.mc_rings.proofs.Levels.{made, set_here, set_other, mark_kept, mark_from, none_marked, free_at, length-none}
-use Rattle.mc_rings.proofs.Forests.{same_option}
-use Rattle.mc_rings.proofs.Parts.{same_listed}
-use Rattle.mc_rings.proofs.LeastPlaces.{one_mark}
+use Rattle.mc_rings.specs.Blocks.{Begins, Blocked, Hangs, HeadOf}
 
 pub blocked_none : (bonds : List Bond) (n : ℕ) (places : List (Option ℕ)) (parents : List (Option AtomId)) (heads firsts : List AtomId) (above : List (Option ℕ)) → length places ≡ n → heads ≡ []
     → firsts ≡ [] → above ≡ replicate n None → Blocked bonds n places parents heads firsts above 0
@@ -72,7 +72,7 @@ blocked_child bonds n order places parents roots heads firsts longer further abo
     | inr past ↦
         let j_is : j ≡ i = omega arith in
         let same = same_listed bonds n order places parents roots is.found x.0 y i j at at_y (sym j_is) in
-        let q_is : p.0 ≡ q = ap (λ (a : AtomId). a.0) (same_option p (made q) (same_option (Some p) (Some (made q)) (sym parent ∙ subst (λ (m : ℕ). Parent parents m q) (sym same) child))) in
+        let q_is : p.0 ≡ q = ap (λ (a : AtomId). a.0) (same_Some p (made q) (same_Some (Some p) (Some (made q)) (sym parent ∙ subst (λ (m : ℕ). Parent parents m q) (sym same) child))) in
         subst (λ (m : ℕ). (l : ℕ) × (Mark (slice_set above x.0 (Some k)) m l) × (Hangs bonds places parents longer further (slice_set above x.0 (Some k)) m q l)) same
         (subst (λ (m : ℕ). (l : ℕ) × (Mark (slice_set above x.0 (Some k)) x.0 l) × (Hangs bonds places parents longer further (slice_set above x.0 (Some k)) x.0 m l)) q_is (k, here, hangs begins))
   ];

@@ -1,43 +1,25 @@
 -- Equal block numbers, exactly where one closed path goes along both bonds.
-use Rattle.std.proofs.Common.{◌≡◌, ◌≢◌, ◌∙◌, ℕ, ◌-◌, ◌<◌, ◌↔◌, ◌||◌, ◌&&◌, ◌==◌, Bool, true, false, List, Some, length, get_or, slice_get, subst, sym, arith, refl, inl, inr}
-use Rattle.std.specs.Prelude.{AllPairs}
+use Rattle.std.proofs.Common.{Bool, List, Some, arith, false, get_or, inl, inr, length, refl, slice_get, subst, sym, true, ℕ, ◌&&◌, ◌-◌, ◌<◌, ◌==◌, ◌||◌, ◌↔◌, ◌∙◌, ◌≡◌, ◌≢◌}
+use Rattle.mc_mol.proofs.Twins.{joins_first}
+use Rattle.mc_mol.proofs.Apart.{one_bond, joins_from}
 use Rattle.std.proofs.lemmas.Bool.{cases_lt}
-use Rattle.std.proofs.lemmas.Option.{slice_get_within, get_or_from_slice_get}
-use Rattle.mc_mol.specs.declared.parts.Bond.{Bond}
-use Rattle.mc_mol.specs.Molecule.{joins}
+use Rattle.std.proofs.lemmas.Option.{get_or_from_slice_get, slice_get_within}
+use Rattle.std.specs.Prelude.{AllPairs}
 use Rattle.mc_mol.proofs.Halves.{same_test}
-use Rattle.mc_rings.specs.ClosedPaths.{IsClosedPath, Follows, Uses, ShareClosedPath}
-use Rattle.mc_rings.specs.Blocks.{BlockOf, Tree, IsTree}
+use Rattle.mc_mol.proofs.Neighbours.{bond_joined}
+use Rattle.mc_mol.proofs.Rounds.{SamePair, next_followed, open_of}
+use Rattle.mc_mol.specs.ClosedPaths.{Follows, IsClosedPath, Uses}
+use Rattle.mc_mol.specs.Molecule.{joins}
+use Rattle.mc_mol.specs.declared.parts.Bond.{Bond}
+use Rattle.mc_rings.proofs.OneBlock.{block_of, closed_one, one_block, swapped}
+use Rattle.mc_rings.proofs.SharedPaths.{block_near, share_of}
+use Rattle.mc_rings.specs.Blocks.{BlockOf, IsTree, Tree}
+use Rattle.mc_rings.specs.RingSizes.{ShareClosedPath}
 use Rattle.mc_rings.specs.Rings.{AreBlocks}
-use Rattle.mc_rings.proofs.BlockEnds.{bond_joined}
-use Rattle.mc_rings.proofs.OneBlock.{swapped, block_of, one_block, closed_one}
-use Rattle.mc_rings.proofs.SharedPaths.{SamePair, block_near, share_of, open_of, next_followed}
-
-joins_same : (b : Bond) (u v : ℕ) → SamePair b.first.0 b.second.0 u v → joins b u v ≡ true
-joins_same b u v (inl (e, h)) = rw (e, h, same_test u, same_test v) refl
-joins_same b u v (inr (e, h)) = rw (e, h, same_test u, same_test v) (or_true (v == u && u == v))
-  where
-    or_true : (p : Bool) → (p || true) ≡ true
-    or_true true = refl
-    or_true false = refl
-
-once_at : (bonds : List Bond) → AllPairs (λ (b c : Bond). joins b c.first.0 c.second.0 ≡ false) bonds → (m n : ℕ) (b c : Bond) → m < n → slice_get bonds m ≡ Some b → slice_get bonds n ≡ Some c
-    → joins b c.first.0 c.second.0 ≡ false
-once_at bonds once m n b c less at_b at_c =
-    let h = once m n b less (slice_get_within bonds n c at_c) in
-    subst (λ (x : Bond). joins x c.first.0 c.second.0 ≡ false) (get_or_from_slice_get bonds m b b at_b)
-    (subst (λ (x : Bond). joins (get_or bonds m b) x.first.0 x.second.0 ≡ false) (get_or_from_slice_get bonds n c b at_c) h)
 
 pub not_same : (bonds : List Bond) → AllPairs (λ (b c : Bond). joins b c.first.0 c.second.0 ≡ false) bonds → (m n : ℕ) (b c : Bond) → m ≢ n → slice_get bonds m ≡ Some b → slice_get bonds n ≡ Some c
     → SamePair b.first.0 b.second.0 c.first.0 c.second.0 → ⊥
-not_same bonds once m n b c other at_b at_c same = elim (cases_lt m n) [
-  | inl less ↦ let no_join = once_at bonds once m n b c less at_b at_c in let join = joins_same b c.first.0 c.second.0 same in cc
-  | inr more ↦ let no_join = once_at bonds once n m c b (omega arith) at_c at_b in let join = joins_same c b.first.0 b.second.0 (back same) in cc
-]
-  where
-    back : SamePair b.first.0 b.second.0 c.first.0 c.second.0 → SamePair c.first.0 c.second.0 b.first.0 b.second.0
-    back (inl (e, h)) = inl (sym e, sym h)
-    back (inr (e, h)) = inr (sym h, sym e)
+not_same bonds once m n b c other at_b at_c same = other (one_bond bonds once m n c.first.0 c.second.0 b c at_b at_c (joins_from b c.first.0 c.second.0 same) (joins_first c))
 
 -- a bond of a closed path has the block of the bond that closes it
 followed_block : (t : Tree) → IsTree t → (path : List ℕ) → IsClosedPath t.bonds path → (k0 : ℕ) → BlockOf t.places t.above (get_or path (length path - 1) 0) (get_or path 0 0) k0 → (x y k : ℕ)

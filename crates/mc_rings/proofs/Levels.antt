@@ -1,50 +1,20 @@
 -- The steps of a search by levels.
-use Rattle.std.proofs.Common.{◌≡◌, ◌≢◌, ◌∙◌, ℕ, zero, suc, ◌+◌, ◌<◌, ◌≤◌, ◌⊎◌, ◌||◌, ◌==◌, Bool, true, false, List, [], ◌∷◌, ◌++◌, Option, Some, None, length, get_or, slice_get, slice_set, replicate, subst, sym, ap, arith, refl, inl, inr}
-use Rattle.std.specs.List.{list_any}
+use Rattle.std.proofs.Common.{List, None, Option, Some, [], ap, arith, get_or, inl, inr, length, refl, replicate, slice_get, slice_set, subst, suc, sym, true, zero, ℕ, ◌++◌, ◌+◌, ◌<◌, ◌∙◌, ◌∷◌, ◌≡◌, ◌≢◌, ◌≤◌, ◌⊎◌}
 use Rattle.std.proofs.lemmas.Bool.{cases_eq, cases_lt}
-use Rattle.std.proofs.lemmas.Option.{slice_get_within, slice_get-get_or}
 use Rattle.std.proofs.lemmas.List.{length-append}
+use Rattle.std.proofs.lemmas.Option.{slice_get-get_or, slice_get_within}
 use Rattle.mc_base.specs.declared.ids.AtomId.{AtomId}
+use Rattle.mc_mol.proofs.Halves.{are_joined-half_edges}
+use Rattle.mc_mol.proofs.Lists.{length-slice_set, slice_get-append_left, slice_get-append_past, slice_get-append_seam}
+use Rattle.mc_mol.proofs.Neighbours.{joined_at}
+use Rattle.mc_mol.proofs.Numbered.{atom_is, free_at, leads_to, length-none, mark_from, mark_kept, none_marked, set_here, unmarked-replicate, unmarked-set, nobody}
+use Rattle.mc_mol.specs.HalfEdges.{HasTwin, half_edges}
+use Rattle.mc_mol.specs.Molecule.{Molecule, are_joined}
+use Rattle.mc_mol.specs.Numbered.{Holds, Keeps, Mark, unmarked}
 use Rattle.mc_mol.specs.declared.parts.Bond.{Bond}
 use Rattle.mc_mol.specs.declared.parts.HalfEdge.{HalfEdge}
-use Rattle.mc_mol.specs.Molecule.{Molecule, joins, are_joined}
-use Rattle.mc_mol.specs.HalfEdges.{half_edges, HasTwin}
-use Rattle.mc_mol.proofs.Halves.{are_joined-half_edges, other_test}
-use Rattle.mc_mol.proofs.Lists.{slice_get-append_left, slice_get-append_seam, slice_get-append_past, slice_get-slice_set, length-slice_set}
-use Rattle.mc_rings.specs.Distances.{Mark, MarkWithin, Step, From, AreDistances}
-use Rattle.mc_rings.specs.Levels.{Holds, unmarked, Between, Explored, Keeps, Reaches, LevelDone}
-
--- a value that is set is there, and no other changes
-pub set_here : {A : Type 0} (xs : List A) (i : ℕ) (x y : A) → slice_get xs i ≡ Some x → slice_get (slice_set xs i y) i ≡ Some y
-set_here [] i x y e = cc
-set_here (z ∷ xs) zero x y e = refl
-set_here (z ∷ xs) (suc i) x y e = set_here xs i x y e
-
-pub set_other : {A : Type 0} (xs : List A) (i k : ℕ) (y : A) → k ≢ i → slice_get (slice_set xs i y) k ≡ slice_get xs k
-set_other [] i k y ne = refl
-set_other (z ∷ xs) zero zero y ne = absurd (ne refl)
-set_other (z ∷ xs) zero (suc k) y ne = refl
-set_other (z ∷ xs) (suc i) zero y ne = refl
-set_other (z ∷ xs) (suc i) (suc k) y ne = set_other xs i k y (λ e. ne (ap (λ (n : ℕ). suc n) e))
-
-pub unmarked-set : (marks : List (Option ℕ)) (a d : ℕ) → slice_get marks a ≡ Some None → unmarked (slice_set marks a (Some d)) + 1 ≡ unmarked marks
-unmarked-set [] a d e = cc
-unmarked-set (Some m ∷ marks) zero d e = cc
-unmarked-set (None ∷ marks) zero d e = omega arith
-unmarked-set (Some m ∷ marks) (suc a) d e = let h = unmarked-set marks a d e in omega arith
-unmarked-set (None ∷ marks) (suc a) d e = let h = unmarked-set marks a d e in omega arith
-
-pub mark_kept : (marks : List (Option ℕ)) (y e : ℕ) → slice_get marks y ≡ Some None → Keeps marks (slice_set marks y (Some e))
-mark_kept marks y e free a d at = set_other marks y a (Some e) (λ same. let there : slice_get marks y ≡ Some (Some d) = subst (λ (n : ℕ). Mark marks n d) same at in cc) ∙ at
-
-pub mark_from : (marks : List (Option ℕ)) (y e a d : ℕ) → Mark (slice_set marks y (Some e)) a d → ((a ≡ y) × (d ≡ e)) ⊎ Mark marks a d
-mark_from marks y e a d at = elim (slice_get-slice_set marks y a (Some e) (Some d) at) [
-  | inl here ↦ inl (here.0, number here.1)
-  | inr there ↦ inr there
-]
-  where
-    number : Some d ≡ Some e → d ≡ e
-    number same = cc
+use Rattle.mc_rings.specs.Distances.{AreDistances, From, MarkWithin, Step}
+use Rattle.mc_rings.specs.Levels.{Between, Explored, LevelDone, Reaches}
 
 from_kept : (bonds : List Bond) (u v : ℕ) (marks : List (Option ℕ)) (y e a d : ℕ) → slice_get marks y ≡ Some None → From bonds u v marks a d
     → From bonds u v (slice_set marks y (Some e)) a d
@@ -56,15 +26,6 @@ from_kept bonds u v marks y e a d free from = record {
 
 pub within_kept : (marks new : List (Option ℕ)) (a most : ℕ) → Keeps marks new → MarkWithin marks a most → MarkWithin new a most
 within_kept marks new a most keeps (d, at, few) = (d, keeps a d at, few)
-
-abbrev pub made : ℕ → AtomId
-made n = record { 0 = n }
-
-pub atom_is : (a : AtomId) (b : ℕ) → Some a ≡ Some (made b) → a.0 ≡ b
-atom_is a b e = ap (λ (c : AtomId). c.0) (inside a (made b) e)
-  where
-    inside : (x y : AtomId) → Some x ≡ Some y → x ≡ y
-    inside x y e = cc
 
 -- one more atom gets its number
 pub reach_state : (bonds : List Bond) (u v atoms level x : ℕ) (current : List AtomId) (marks : List (Option ℕ)) (next : List AtomId) (y : AtomId)
@@ -157,28 +118,6 @@ finished bonds u v atoms level marks is = record {
         let not_here : d ≢ level = λ e. nobody x (is.here x (subst (λ (k : ℕ). Mark marks x k) e m)) in
         omega arith
 
--- nothing but the start has a number
-abbrev pub nobody : ℕ → List (Option ℕ)
-nobody n = replicate n None
-
-pub none_marked : (n a d : ℕ) → Mark (nobody n) a d → ⊥
-none_marked zero a d e = cc
-none_marked (suc n) zero d e = cc
-none_marked (suc n) (suc a) d e = none_marked n a d e
-
-pub free_at : (n u : ℕ) → u < n → slice_get (nobody n) u ≡ Some None
-free_at zero u h = absurd (omega arith)
-free_at (suc n) zero h = refl
-free_at (suc n) (suc u) h = free_at n u (omega arith)
-
-pub unmarked-replicate : (n : ℕ) → unmarked (nobody n) ≡ n
-unmarked-replicate zero = refl
-unmarked-replicate (suc n) = let h = unmarked-replicate n in omega arith
-
-pub length-none : (n : ℕ) → length (nobody n) ≡ n
-length-none zero = refl
-length-none (suc n) = let h = length-none n in omega arith
-
 pub begun : (bonds : List Bond) (v n : ℕ) (start : AtomId) (marks : List (Option ℕ)) (current : List AtomId) → start.0 < n → marks ≡ slice_set (nobody n) start.0 (Some 0)
     → current ≡ start ∷ [] → Between bonds start.0 v n 0 current marks []
 begun bonds v n start marks current within marks_are current_is = rw (marks_are, current_is) (record {
@@ -204,32 +143,8 @@ begun bonds v n start marks current within marks_are current_is = rw (marks_are,
     now_of a zero e = subst (λ (k : ℕ). Mark (slice_set (nobody n) start.0 (Some 0)) k 0) (atom_is start a e) (set_here (nobody n) start.0 None (Some 0) (free_at n start.0 within))
     now_of a (suc i) e = cc
 
--- A half-edge is a step, and each step from an atom is one of its half-edges.
-pub joined_at : (bonds : List Bond) (k : ℕ) (bond : Bond) (u v : ℕ) → slice_get bonds k ≡ Some bond → joins bond u v ≡ true → are_joined bonds u v ≡ true
-joined_at [] k bond u v at e = cc
-joined_at (b ∷ bonds) zero bond u v at e =
-    let first : joins b u v ≡ true = let same : b ≡ bond = some_bond b bond at in subst (λ (c : Bond). joins c u v ≡ true) (sym same) e in
-    ap (λ t. t || are_joined bonds u v) first
-  where
-    some_bond : (b c : Bond) → Some b ≡ Some c → b ≡ c
-    some_bond b c e = cc
-joined_at (b ∷ bonds) (suc k) bond u v at e = or_true (joins b u v) (are_joined bonds u v) (joined_at bonds k bond u v at e)
-  where
-    or_true : (s t : Bool) → t ≡ true → (s || t) ≡ true
-    or_true true t e = refl
-    or_true false t e = e
-
 pub half_edge_joined : (m : Molecule) (a : AtomId) (place : ℕ) (half : HalfEdge) → HasTwin m a place half → are_joined m.bonds a.0 half.to.0 ≡ true
 half_edge_joined m a place half twin = joined_at m.bonds half.bond.0 twin.bond a.0 half.to.0 twin.is_bond twin.joined
-
-pub leads_to : (halves : List HalfEdge) (y : ℕ) → list_any (λ (half : HalfEdge). half.to.0 == y) halves ≡ true → (k : ℕ) × (half : HalfEdge) × (slice_get halves k ≡ Some half) × (half.to.0 ≡ y)
-leads_to [] y e = cc
-leads_to (half ∷ halves) y e = elim (cases_eq half.to.0 y) [
-  | inl here ↦ (0, half, refl, here)
-  | inr other ↦
-      let found = leads_to halves y (ap (λ b. b || list_any (λ (half : HalfEdge). half.to.0 == y) halves) (sym (other_test half.to.0 y other)) ∙ e) in
-      (suc found.0, found.1, found.2, found.3)
-]
 
 -- an atom whose half-edges have all been followed is explored
 pub explored_all : (m : Molecule) (u v level x : ℕ) (marks : List (Option ℕ)) → Mark marks x level

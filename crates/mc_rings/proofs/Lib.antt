@@ -1,9 +1,5 @@
 pub mod RingSizes
 pub mod Levels
-pub mod Forests
-pub mod Paths
-pub mod Parts
-pub mod LeastPlaces
 pub mod BlockSteps
 pub mod BlockEnds
 pub mod OneBlock

@@ -1,17 +1,18 @@
 -- A bond that is alone in its block lies in no ring.
-use Rattle.std.proofs.Common.{◌≡◌, ◌≢◌, ◌∙◌, ℕ, ◌+◌, ◌<◌, ◌≤◌, ◌⊎◌, Bool, true, false, List, [], ◌∷◌, ◌++◌, Option, Some, length, get_or, slice_get, slice_set, subst, sym, arith, refl, inl, inr}
+use Rattle.std.proofs.Common.{Bool, List, Option, Some, [], arith, false, get_or, inl, inr, length, refl, slice_get, slice_set, subst, sym, true, ℕ, ◌++◌, ◌+◌, ◌<◌, ◌∙◌, ◌∷◌, ◌≡◌, ◌≢◌, ◌≤◌, ◌⊎◌}
 use Rattle.std.proofs.lemmas.Bool.{cases_eq, cases_lt}
-use Rattle.std.proofs.lemmas.Option.{slice_get_within, slice_get-get_or}
 use Rattle.std.proofs.lemmas.List.{length-append}
-use Rattle.mc_mol.specs.declared.parts.Bond.{Bond}
-use Rattle.mc_mol.specs.Molecule.{joins}
+use Rattle.std.proofs.lemmas.Option.{slice_get-get_or, slice_get_within, same_Some}
+use Rattle.mc_mol.proofs.Apart.{joins_cases}
 use Rattle.mc_mol.proofs.Lists.{slice_get-append_left, slice_get-append_past}
-use Rattle.mc_rings.specs.ClosedPaths.{IsClosedPath, Uses, IsRingOf, RingSizeAt}
-use Rattle.mc_rings.specs.Rings.{AreBlocks}
+use Rattle.mc_mol.proofs.Neighbours.{bond_number}
+use Rattle.mc_mol.proofs.Numbered.{set_here, set_other}
+use Rattle.mc_mol.specs.ClosedPaths.{IsClosedPath, IsRingOf, Uses}
+use Rattle.mc_mol.specs.Molecule.{joins}
+use Rattle.mc_mol.specs.declared.parts.Bond.{Bond}
 use Rattle.mc_rings.specs.Counts.{AtLeast, Counted}
-use Rattle.mc_rings.proofs.Levels.{set_here, set_other}
-use Rattle.mc_rings.proofs.Forests.{same_option, joins_cases}
-use Rattle.mc_rings.proofs.BlockOrders.{bond_number}
+use Rattle.mc_rings.specs.RingSizes.{RingSizeAt}
+use Rattle.mc_rings.specs.Rings.{AreBlocks}
 
 one_value : (xs : List ℕ) (i x y : ℕ) → slice_get xs i ≡ Some x → slice_get xs i ≡ Some y → x ≡ y
 one_value xs i x y e f = cc
@@ -72,7 +73,7 @@ step_other bonds path i k bond closed at within not_it =
       bond = b.1;
       is_bond = b.2;
       differs = λ same.
-          let is : b.1 ≡ bond = same_option b.1 bond (sym b.2 ∙ subst (λ (m : ℕ). slice_get bonds m ≡ Some bond) same at) in
+          let is : b.1 ≡ bond = same_Some b.1 bond (sym b.2 ∙ subst (λ (m : ℕ). slice_get bonds m ≡ Some bond) same at) in
           not_it (subst (λ (c : Bond). joins c (get_or path k 0) (get_or path (k + 1) 0) ≡ true) is b.3);
       uses = step_uses path k b.1 within (joins_cases b.1 (get_or path k 0) (get_or path (k + 1) 0) b.3);
     }

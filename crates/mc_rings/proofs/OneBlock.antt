@@ -1,15 +1,18 @@
 -- All bonds of a closed path belong to one block.
-use Rattle.std.proofs.Common.{◌≡◌, ◌≢◌, ◌∙◌, ℕ, zero, suc, ◌<◌, ◌⊎◌, true, List, [], ◌∷◌, ◌++◌, subst, sym, ap, arith, refl, inl, inr}
+use Rattle.std.proofs.Common.{List, [], ap, arith, inl, inr, refl, subst, suc, sym, true, zero, ℕ, ◌++◌, ◌<◌, ◌∙◌, ◌∷◌, ◌≡◌, ◌≢◌, ◌⊎◌}
+use Rattle.std.proofs.lemmas.List.{append_assoc}
 use Rattle.std.proofs.lemmas.Bool.{cases_eq, cases_lt}
+use Rattle.mc_mol.proofs.Climbs.{later_up}
+use Rattle.mc_mol.proofs.LeastPlaces.{one_mark}
+use Rattle.mc_mol.proofs.Neighbours.{joined_back, joined_ends}
+use Rattle.mc_mol.proofs.Paths.{chain_right, chain_seam, distinct_apart, distinct_join, distinct_left, distinct_right, in_cases, in_turned, last_put, last_right, path_turned, turned}
+use Rattle.mc_mol.proofs.Roots.{same_listed}
+use Rattle.mc_mol.specs.Forests.{IsLater}
 use Rattle.mc_mol.specs.Molecule.{are_joined}
-use Rattle.mc_rings.specs.Distances.{Mark}
-use Rattle.mc_rings.specs.Blocks.{IsLater, LowerEnd, BlockOf, Tree, IsTree, IsFirst, IsEnd}
-use Rattle.mc_rings.specs.Paths.{In, HeadIs, LastIs, Next, Chain, Distinct, OpenPath}
-use Rattle.mc_rings.proofs.RingSizes.{joined_back}
-use Rattle.mc_rings.proofs.Parts.{joined_ends, same_listed}
-use Rattle.mc_rings.proofs.LeastPlaces.{one_mark}
-use Rattle.mc_rings.proofs.Paths.{last_put, chain_seam, path_turned, turned, append_assoc, chain_right, in_cases, distinct_left, distinct_right, distinct_join, distinct_apart, in_turned, last_right}
-use Rattle.mc_rings.proofs.BlockEnds.{later_up, block_at, one_first, placed_of, block_ends, earlier_first, lower_end}
+use Rattle.mc_mol.specs.Numbered.{Mark}
+use Rattle.mc_mol.specs.Paths.{Chain, Distinct, HeadIs, In, LastIs, Next, OpenPath}
+use Rattle.mc_rings.proofs.BlockEnds.{block_at, block_ends, earlier_first, lower_end, one_first, placed_of}
+use Rattle.mc_rings.specs.Blocks.{BlockOf, IsEnd, IsFirst, IsTree, LowerEnd, Tree}
 
 pub swapped : (t : Tree) (u v k : ℕ) → BlockOf t.places t.above u v k → BlockOf t.places t.above v u k
 swapped t u v k (inl lower) = inr lower

@@ -1,24 +1,19 @@
 -- Distances from one end of a bond without the bond tell its ring size.
-use Rattle.std.proofs.Common.{◌≡◌, ◌≢◌, ◌∙◌, ℕ, zero, suc, ◌+◌, ◌-◌, ◌<◌, ◌≤◌, ◌⊎◌, true, ◌&&◌, ◌||◌, ◌==◌, List, [], ◌∷◌, ◌++◌, Option, Some, None, length, reverse, slice_get, get_or, subst, sym, ap, arith, refl, inl, inr}
-use Rattle.std.proofs.lemmas.Bool.{cases_eq, cases_lt}
-use Rattle.std.proofs.lemmas.List.{length-append, length-reverse, get_or-reverse, get_or_append_left}
+use Rattle.std.proofs.Common.{List, None, Option, Some, [], ap, arith, get_or, inl, inr, length, refl, reverse, slice_get, subst, suc, sym, true, zero, ℕ, ◌++◌, ◌+◌, ◌-◌, ◌<◌, ◌∙◌, ◌∷◌, ◌≡◌, ◌≢◌, ◌≤◌, ◌⊎◌}
 use Rattle.std.proofs.Math.Seq.{get_or-append_seam}
+use Rattle.std.proofs.lemmas.Bool.{cases_eq, cases_lt}
+use Rattle.std.proofs.lemmas.List.{get_or-reverse, get_or_append_left, length-append, length-reverse}
+use Rattle.mc_mol.proofs.Neighbours.{joined_back}
+use Rattle.mc_mol.proofs.Paths.{last_in, next_in}
+use Rattle.mc_mol.specs.ClosedPaths.{Follows, IsClosedPath, IsRingOf, Uses}
+use Rattle.mc_mol.specs.Molecule.{are_joined}
+use Rattle.mc_mol.specs.Numbered.{Mark}
 use Rattle.mc_mol.specs.declared.parts.Bond.{Bond}
-use Rattle.mc_mol.specs.Molecule.{joins, are_joined}
-use Rattle.mc_mol.proofs.Halves.{or_comm}
-use Rattle.mc_rings.specs.ClosedPaths.{IsClosedPath, Follows, Uses, IsRingOf, IsRingSize}
-use Rattle.mc_rings.specs.Distances.{Mark, MarkWithin, Step, From, AreDistances}
+use Rattle.mc_rings.specs.Distances.{AreDistances, From, MarkWithin, Step}
+use Rattle.mc_rings.specs.RingSizes.{IsRingSize}
 
 same_mark : (marks : List (Option ℕ)) (a b d e : ℕ) → a ≡ b → Mark marks a d → Mark marks b e → d ≡ e
 same_mark marks a b d e same at_a at_b = let at : slice_get marks a ≡ Some (Some e) = subst (λ (n : ℕ). Mark marks n e) (sym same) at_b in cc
-
-pub joined_back : (bonds : List Bond) (x y : ℕ) → are_joined bonds x y ≡ true → are_joined bonds y x ≡ true
-joined_back bonds x y e = sym (turned bonds) ∙ e
-  where
-    turned : (bonds : List Bond) → are_joined bonds x y ≡ are_joined bonds y x
-    turned [] = refl
-    turned (bond ∷ bonds) = ap (λ b. b || are_joined bonds x y) (or_comm (bond.first.0 == x && bond.second.0 == y) (bond.first.0 == y && bond.second.0 == x))
-        ∙ ap (λ b. joins bond y x || b) (turned bonds)
 
 -- a list of atoms with the numbers 0 to d, each a step from the one before
 pub record PathTo (bonds : List Bond) (u v : ℕ) (marks : List (Option ℕ)) (a d : ℕ) : Type 0 where

@@ -23,8 +23,9 @@ Above above x block = slice_get above x ≡ Some (Some block)
 
 -- an order of the atoms, the first atom of each block, and the block above each atom, or none
 pub record IsBlockOrder (m : Molecule) (blocks : List ℕ) (order firsts : List AtomId) (above : List (Option ℕ)) : Type 0 where
-  -- the order lists each atom once
+  -- the order lists each atom once, and nothing else
   pub count : length order ≡ length m.atoms
+  pub within : (i : ℕ) (x : AtomId) → slice_get order i ≡ Some x → x.0 < length m.atoms
   pub once : (x : ℕ) → x < length m.atoms → times x order ≡ 1
   -- each block has a first atom, which is an end of one of its bonds
   pub below_count : (b block : ℕ) → slice_get blocks b ≡ Some block → block < length firsts

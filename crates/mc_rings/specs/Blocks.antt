@@ -2,54 +2,9 @@
 use Rattle.std.specs.Prelude.{◌≡◌, ℕ, ◌+◌, ◌<◌, ◌≤◌, ◌⊎◌, ◌++◌, Bool, true, List, [], ◌∷◌, Option, Some, None, length, slice_get}
 use Rattle.mc_base.specs.declared.ids.AtomId.{AtomId}
 use Rattle.mc_mol.specs.declared.parts.Bond.{Bond}
-use Rattle.mc_mol.specs.declared.parts.HalfEdge.{HalfEdge}
-use Rattle.mc_mol.specs.Molecule.{are_joined}
-use Rattle.mc_rings.specs.Distances.{Mark}
-use Rattle.mc_rings.specs.Forests.{Parent, IsAbove, IsForest}
-
--- a bond leads from x or a descendant of it to the atom at this place
-pub record LowFrom (bonds : List Bond) (places : List (Option ℕ)) (parents : List (Option AtomId)) (x low : ℕ) : Type 0 where
-  pub from : ℕ
-  pub to : ℕ
-  pub below : IsAbove parents x from
-  pub joined : are_joined bonds from to ≡ true
-  pub at : Mark places to low
-
--- the least place to which a bond leads from x or a descendant of it
-pub record LowIs (bonds : List Bond) (places : List (Option ℕ)) (parents : List (Option AtomId)) (x low : ℕ) : Type 0 where
-  pub least : (w a j : ℕ) → IsAbove parents x w → are_joined bonds w a ≡ true → Mark places a j → low ≤ j
-  pub reached : Mark places x low ⊎ LowFrom bonds places parents x low
-
-abbrev pub LowAt : List Bond → List (Option ℕ) → List (Option AtomId) → List ℕ → ℕ → Type 0
-LowAt bonds places parents lows x = (low : ℕ) × (slice_get lows x ≡ Some low) × (LowIs bonds places parents x low)
-
--- the last `done` atoms of the order have theirs
-pub record AreLows (bonds : List Bond) (atoms : ℕ) (places : List (Option ℕ)) (parents : List (Option AtomId)) (lows : List ℕ) (done : ℕ) : Type 0 where
-  pub count : length lows ≡ atoms
-  pub each : (x j : ℕ) → Mark places x j → atoms ≤ j + done → LowAt bonds places parents lows x
-
--- no greater than the place of a neighbour a of x, nor, if a is a child, than what leads from below it
-pub record AtMost (bonds : List Bond) (places : List (Option ℕ)) (parents : List (Option AtomId)) (x a low : ℕ) : Type 0 where
-  pub below : (w b j : ℕ) → Parent parents a x → IsAbove parents a w → are_joined bonds w b ≡ true → Mark places b j → low ≤ j
-  pub here : (j : ℕ) → Mark places a j → low ≤ j
-
--- what a neighbour a of x adds to the least place of x
-pub record HalfLow (bonds : List Bond) (places : List (Option ℕ)) (parents : List (Option AtomId)) (x a low : ℕ) : Type 0 where
-  pub at_most : AtMost bonds places parents x a low
-  pub reached : Mark places a low ⊎ (Parent parents a x × LowFrom bonds places parents a low)
-
--- the least place of x, as far as its first half-edges tell
-pub record LowSoFar (bonds : List Bond) (places : List (Option ℕ)) (parents : List (Option AtomId)) (x : ℕ) (halves : List HalfEdge) (low seen : ℕ) : Type 0 where
-  pub reached : Mark places x low ⊎ LowFrom bonds places parents x low
-  pub at_most : (k : ℕ) (half : HalfEdge) → k < seen → slice_get halves k ≡ Some half → AtMost bonds places parents x half.to.0 low
-
--- a bond leads from x or a descendant of it to an atom that was found before p
-pub record Rises (bonds : List Bond) (places : List (Option ℕ)) (parents : List (Option AtomId)) (x p : ℕ) : Type 0 where
-  pub low : ℕ
-  pub above : ℕ
-  pub from : LowFrom bonds places parents x low
-  pub at : Mark places p above
-  pub earlier : low < above
+use Rattle.mc_mol.specs.Numbered.{Mark}
+use Rattle.mc_mol.specs.Forests.{Parent, IsForest}
+use Rattle.mc_mol.specs.Lows.{Rises}
 
 -- The bond between x and its parent p has block k: it is the block's first, or the block is that of the bond above p.
 abbrev pub Hangs : List Bond → List (Option ℕ) → List (Option AtomId) → List AtomId → List AtomId → List (Option ℕ) → ℕ → ℕ → ℕ → Type 0
@@ -80,10 +35,6 @@ abbrev pub Begins : List AtomId → List AtomId → List AtomId → List AtomId 
 Begins heads firsts longer further above atom parent rises k =
     ((rises ≡ true) × (Mark above parent.0 k) × (longer ≡ heads) × (further ≡ firsts))
     ⊎ ((rises ≡ true → slice_get above parent.0 ≡ Some None) × (k ≡ length heads) × (longer ≡ heads ++ atom ∷ []) × (further ≡ firsts ++ parent ∷ []))
-
--- v was found later than u
-abbrev pub IsLater : List (Option ℕ) → ℕ → ℕ → Type 0
-IsLater places u v = (i : ℕ) × (j : ℕ) × (Mark places u i) × (Mark places v j) × (i < j)
 
 -- the bond between u and v, the later of the two, has this block
 pub record LowerEnd (places above : List (Option ℕ)) (u v block : ℕ) : Type 0 where

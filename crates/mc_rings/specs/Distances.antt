@@ -2,10 +2,7 @@
 use Rattle.std.specs.Prelude.{◌≡◌, ℕ, suc, ◌<◌, ◌≤◌, true, List, Option, Some, None, slice_get}
 use Rattle.mc_mol.specs.declared.parts.Bond.{Bond}
 use Rattle.mc_mol.specs.Molecule.{are_joined}
-
--- atom a has the number d
-abbrev pub Mark : List (Option ℕ) → ℕ → ℕ → Type 0
-Mark marks a d = slice_get marks a ≡ Some (Some d)
+use Rattle.mc_mol.specs.Numbered.{Mark}
 
 -- atom a has a number, of at most this
 abbrev pub MarkWithin : List (Option ℕ) → ℕ → ℕ → Type 0

@@ -2,17 +2,8 @@
 use Rattle.std.specs.Prelude.{◌≡◌, ℕ, suc, ◌+◌, ◌<◌, ◌≤◌, ◌⊎◌, ◌++◌, List, [], ◌∷◌, Option, Some, None, length, slice_get, slice_set}
 use Rattle.mc_base.specs.declared.ids.AtomId.{AtomId}
 use Rattle.mc_mol.specs.declared.parts.Bond.{Bond}
-use Rattle.mc_rings.specs.Distances.{Mark, MarkWithin, Step, From}
-
--- the atom is in the list
-abbrev pub Holds : List AtomId → ℕ → Type 0
-Holds atoms a = (i : ℕ) × (slice_get atoms i ≡ Some (record { 0 = a }))
-
--- how many atoms have no number yet
-abbrev pub unmarked : List (Option ℕ) → ℕ
-unmarked [] = 0
-unmarked (None ∷ marks) = unmarked marks + 1
-unmarked (Some d ∷ marks) = unmarked marks
+use Rattle.mc_mol.specs.Numbered.{Mark, Holds}
+use Rattle.mc_rings.specs.Distances.{MarkWithin, Step, From}
 
 -- The current atoms are those of the level. Every atom nearer than the level has numbered its neighbours, and the next
 -- atoms are those that the current ones have numbered so far.
@@ -31,10 +22,6 @@ pub record Between (bonds : List Bond) (u v atoms level : ℕ) (current : List A
 -- an atom has numbered its neighbours
 abbrev pub Explored : List Bond → ℕ → ℕ → ℕ → List (Option ℕ) → ℕ → Type 0
 Explored bonds u v level marks x = (y : ℕ) → Step bonds u v x y → MarkWithin marks y (suc level)
-
--- numbers that are given stay
-abbrev pub Keeps : List (Option ℕ) → List (Option ℕ) → Type 0
-Keeps old new = (a d : ℕ) → Mark old a d → Mark new a d
 
 -- an atom that had a number keeps it, and one that had none gets this one and is noted
 abbrev pub Reaches : List (Option ℕ) → List AtomId → List (Option ℕ) → List AtomId → AtomId → ℕ → Type 0

@@ -1,11 +1,10 @@
-pub mod ClosedPaths
-pub mod Paths
+pub mod RingSizes
 pub mod Distances
 pub mod Levels
-pub mod Forests
 pub mod Blocks
 pub mod BlockOrder
 pub mod Rings
 pub mod Centres
 pub mod SidePlaces
 pub mod Counts
+pub mod Sound

@@ -4,7 +4,7 @@ use Rattle.mc_base.specs.declared.ids.AtomId.{AtomId}
 use Rattle.mc_mol.specs.declared.parts.Bond.{Bond}
 use Rattle.mc_mol.specs.Molecule.{Molecule}
 use Rattle.mc_mol.specs.Parts.{independent_rings}
-use Rattle.mc_rings.specs.ClosedPaths.{RingSizeAt, ShareClosedPath}
+use Rattle.mc_rings.specs.RingSizes.{RingSizeAt, ShareClosedPath}
 use Rattle.mc_rings.specs.BlockOrder.{IsBlockOrder}
 
 -- for each bond its ring size, or none, and its block number; the number of independent rings; and the block order: the

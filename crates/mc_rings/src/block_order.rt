@@ -3,8 +3,8 @@ ghost use Rattle.std.specs.List.Sorted.{IsPermutation, IsNonDecreasingBy};
 ghost use Rattle.mc_rings.specs.Blocks.{block_key};
 
 use crate::block_tree::BlockTree;
-use crate::forest::Forest;
 use mc_base::{AtomId, NoMemory};
+use mc_mol::Forest;
 use std::alloc::Global;
 
 /// The atoms block by block, those without a block above them first.

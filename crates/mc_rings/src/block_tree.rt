@@ -1,14 +1,14 @@
 ghost use Rattle.std.specs.Prelude.{◌≡◌, ◌<◌, ◌≤◌, ℕ, true, length, slice_get, IfOk, Some};
 ghost use Rattle.mc_mol.specs.Molecule.{are_joined};
 ghost use Rattle.mc_rings.specs.Counts.{AreBelow};
-ghost use Rattle.mc_rings.specs.Forests.{IsForest};
+ghost use Rattle.mc_mol.specs.Forests.{IsForest, IsLater};
 ghost use Rattle.mc_rings.specs.Rings.{AreBlocks};
-ghost use Rattle.mc_rings.specs.Blocks.{AreLows, Blocked, BlockOf, IsLater, LowerEnd};
+ghost use Rattle.mc_mol.specs.declared.limits.TheConstants.{ATOM_LIMIT};
+ghost use Rattle.mc_mol.specs.Lows.{AreLows};
+ghost use Rattle.mc_rings.specs.Blocks.{Blocked, BlockOf, LowerEnd};
 
-use crate::forest::Forest;
-use crate::lows::rises;
 use mc_base::{AtomId, BondId, NoMemory};
-use mc_mol::{Bond, Mol};
+use mc_mol::{Bond, Forest, Graph, rises};
 use std::alloc::Global;
 
 /// The blocks of a molecule, as they hang one below the other.
@@ -24,9 +24,11 @@ pub struct BlockTree {
 
 impl BlockTree {
     ghost use Rattle.std.specs.Prelude.{◌≡◌, ◌+◌, ◌<◌, ◌≤◌, [], ℕ, Bool, length, slice_get, replicate, None, Some, OnOk, IfOk};
-    ghost use Rattle.mc_rings.specs.Distances.{Mark};
-    ghost use Rattle.mc_rings.specs.Forests.{IsForest};
-    ghost use Rattle.mc_rings.specs.Blocks.{AreLows, Blocked, Begins};
+    ghost use Rattle.mc_mol.specs.Numbered.{Mark};
+    ghost use Rattle.mc_mol.specs.Forests.{IsForest};
+    ghost use Rattle.mc_mol.specs.declared.limits.TheConstants.{ATOM_LIMIT};
+    ghost use Rattle.mc_mol.specs.Lows.{AreLows};
+    ghost use Rattle.mc_rings.specs.Blocks.{Blocked, Begins};
 
     fn new(alloc: Global, count: usize) -> Result<BlockTree, NoMemory>
         ensures heads { IfOk result (λ tree. tree.heads.items ≡ []) }
@@ -52,7 +54,7 @@ impl BlockTree {
     /// The block of the bond between an atom and its parent.
     fn block_below(&mut self, atom: AtomId, parent: AtomId, rises: bool) -> Result<u32, NoMemory>
         requires parent { parent.0 < length self.old.above.items }
-        requires few { length self.old.heads.items ≤ 999 }
+        requires few { length self.old.heads.items ≤ ATOM_LIMIT }
         ensures above { self.new.above.items ≡ self.old.above.items }
         ensures block { IfOk result (λ k. Begins self.old.heads.items self.old.firsts.items self.new.heads.items self.new.firsts.items self.old.above.items atom parent rises k) }
     {
@@ -70,21 +72,21 @@ impl BlockTree {
     /// Finds the block of the next atom of the order.
     fn add(
         &mut self,
-        mol: &Mol,
+        graph: &Graph<'_>,
         forest: &Forest,
         lows: &[u32],
         atom: AtomId,
     ) -> Result<(), NoMemory>
-        requires few { length mol.now.atoms ≤ 999 }
-        requires forest { IsForest mol.now.bonds (length mol.now.atoms) forest.now.order.items forest.now.places.items forest.now.parents.items forest.now.roots.items }
-        requires lows { AreLows mol.now.bonds (length mol.now.atoms) forest.now.places.items forest.now.parents.items lows.now (length mol.now.atoms) }
-        requires place { (i : ℕ) × (Mark forest.now.places.items atom.0 i) × (Blocked mol.now.bonds (length mol.now.atoms) forest.now.places.items forest.now.parents.items self.old.heads.items self.old.firsts.items self.old.above.items i) }
-        ensures { OnOk result ((i : ℕ) → Mark forest.now.places.items atom.0 i → Blocked mol.now.bonds (length mol.now.atoms) forest.now.places.items forest.now.parents.items self.old.heads.items self.old.firsts.items self.old.above.items i → Blocked mol.now.bonds (length mol.now.atoms) forest.now.places.items forest.now.parents.items self.new.heads.items self.new.firsts.items self.new.above.items (i + 1)) }
+        requires few { graph.now.atoms ≤ ATOM_LIMIT }
+        requires forest { IsForest graph.now.bonds graph.now.atoms forest.now.order.items forest.now.places.items forest.now.parents.items forest.now.roots.items }
+        requires lows { AreLows graph.now.bonds graph.now.atoms forest.now.places.items forest.now.parents.items lows.now graph.now.atoms }
+        requires place { (i : ℕ) × (Mark forest.now.places.items atom.0 i) × (Blocked graph.now.bonds graph.now.atoms forest.now.places.items forest.now.parents.items self.old.heads.items self.old.firsts.items self.old.above.items i) }
+        ensures { OnOk result ((i : ℕ) → Mark forest.now.places.items atom.0 i → Blocked graph.now.bonds graph.now.atoms forest.now.places.items forest.now.parents.items self.old.heads.items self.old.firsts.items self.old.above.items i → Blocked graph.now.bonds graph.now.atoms forest.now.places.items forest.now.parents.items self.new.heads.items self.new.firsts.items self.new.above.items (i + 1)) }
     {
         match forest.parent(atom) {
             None => Ok(()),
             Some(parent) => {
-                let rises = rises(mol, forest, lows, atom, parent);
+                let rises = rises(graph, forest, lows, atom, parent);
                 let block = self.block_below(atom, parent, rises)?;
                 self.above[atom.0 as usize] = Some(block);
                 Ok(())
@@ -96,20 +98,20 @@ impl BlockTree {
 /// The blocks that a depth-first search finds.
 pub fn block_tree(
     alloc: Global,
-    mol: &Mol,
+    graph: &Graph<'_>,
     forest: &Forest,
     lows: &[u32],
 ) -> Result<BlockTree, NoMemory>
-    requires forest { IsForest mol.now.bonds (length mol.now.atoms) forest.now.order.items forest.now.places.items forest.now.parents.items forest.now.roots.items }
-    requires lows { AreLows mol.now.bonds (length mol.now.atoms) forest.now.places.items forest.now.parents.items lows.now (length mol.now.atoms) }
-    ensures blocked { IfOk result (λ tree. Blocked mol.now.bonds (length mol.now.atoms) forest.now.places.items forest.now.parents.items tree.heads.items tree.firsts.items tree.above.items (length mol.now.atoms)) }
-    ensures few { IfOk result (λ tree. length tree.firsts.items ≤ 999) }
+    requires forest { IsForest graph.now.bonds graph.now.atoms forest.now.order.items forest.now.places.items forest.now.parents.items forest.now.roots.items }
+    requires lows { AreLows graph.now.bonds graph.now.atoms forest.now.places.items forest.now.parents.items lows.now graph.now.atoms }
+    ensures blocked { IfOk result (λ tree. Blocked graph.now.bonds graph.now.atoms forest.now.places.items forest.now.parents.items tree.heads.items tree.firsts.items tree.above.items graph.now.atoms) }
+    ensures few { IfOk result (λ tree. length tree.firsts.items ≤ ATOM_LIMIT) }
 {
-    let count = mol.atom_count() as usize;
+    let count = graph.atom_count() as usize;
     let mut tree = BlockTree::new(alloc, count)?;
     for done in 0..count {
         let atom = forest.atom_at(done);
-        tree.add(mol, forest, lows, atom)?;
+        tree.add(graph, forest, lows, atom)?;
     }
     Ok(tree)
 }
@@ -117,43 +119,49 @@ pub fn block_tree(
 /// The block of each bond.
 pub fn bond_blocks(
     alloc: Global,
-    mol: &Mol,
+    graph: &Graph<'_>,
     forest: &Forest,
     tree: &BlockTree,
 ) -> Result<Vec<u32>, NoMemory>
-    requires forest { IsForest mol.now.bonds (length mol.now.atoms) forest.now.order.items forest.now.places.items forest.now.parents.items forest.now.roots.items }
-    requires tree { Blocked mol.now.bonds (length mol.now.atoms) forest.now.places.items forest.now.parents.items tree.now.heads.items tree.now.firsts.items tree.now.above.items (length mol.now.atoms) }
-    ensures are { IfOk result (λ blocks. AreBlocks mol.now.bonds blocks.items) }
+    requires forest { IsForest graph.now.bonds graph.now.atoms forest.now.order.items forest.now.places.items forest.now.parents.items forest.now.roots.items }
+    requires tree { Blocked graph.now.bonds graph.now.atoms forest.now.places.items forest.now.parents.items tree.now.heads.items tree.now.firsts.items tree.now.above.items graph.now.atoms }
+    ensures are { IfOk result (λ blocks. AreBlocks graph.now.bonds blocks.items) }
     ensures below { IfOk result (λ blocks. AreBelow blocks.items (length tree.now.firsts.items)) }
-    ensures each { IfOk result (λ blocks. (k : ℕ) (bond : Bond) (block : ℕ) → slice_get mol.now.bonds k ≡ Some bond → slice_get blocks.items k ≡ Some block → BlockOf forest.now.places.items tree.now.above.items bond.first.0 bond.second.0 block) }
+    ensures each { IfOk result (λ blocks. (k : ℕ) (bond : Bond) (block : ℕ) → slice_get graph.now.bonds k ≡ Some bond → slice_get blocks.items k ≡ Some block → BlockOf forest.now.places.items tree.now.above.items bond.first.0 bond.second.0 block) }
 {
     let mut blocks = Vec::new(alloc);
-    for k in 0..mol.bond_count() {
-        blocks.push(bond_block(mol, forest, tree, BondId(k)))?;
+    for k in 0..graph.bond_count() {
+        blocks.push(bond_block(graph, forest, tree, BondId(k)))?;
     }
     Ok(blocks)
 }
 
 /// The block of a bond is that of its end that was found later.
-fn bond_block(mol: &Mol, forest: &Forest, tree: &BlockTree, b: BondId) -> u32
-    requires bond { b.0 < length mol.now.bonds }
-    requires forest { IsForest mol.now.bonds (length mol.now.atoms) forest.now.order.items forest.now.places.items forest.now.parents.items forest.now.roots.items }
-    requires tree { Blocked mol.now.bonds (length mol.now.atoms) forest.now.places.items forest.now.parents.items tree.now.heads.items tree.now.firsts.items tree.now.above.items (length mol.now.atoms) }
-    ensures { (bond : Bond) → slice_get mol.now.bonds b.0 ≡ Some bond → BlockOf forest.now.places.items tree.now.above.items bond.first.0 bond.second.0 result }
+fn bond_block(graph: &Graph<'_>, forest: &Forest, tree: &BlockTree, b: BondId) -> u32
+    requires bond { b.0 < length graph.now.bonds }
+    requires forest { IsForest graph.now.bonds graph.now.atoms forest.now.order.items forest.now.places.items forest.now.parents.items forest.now.roots.items }
+    requires tree { Blocked graph.now.bonds graph.now.atoms forest.now.places.items forest.now.parents.items tree.now.heads.items tree.now.firsts.items tree.now.above.items graph.now.atoms }
+    ensures { (bond : Bond) → slice_get graph.now.bonds b.0 ≡ Some bond → BlockOf forest.now.places.items tree.now.above.items bond.first.0 bond.second.0 result }
 {
-    let bond = mol.bond(b);
+    let bond = graph.bond(b);
     if forest.place(bond.first) < forest.place(bond.second) {
-        lower_block(mol, forest, tree, bond.first, bond.second)
+        lower_block(graph, forest, tree, bond.first, bond.second)
     } else {
-        lower_block(mol, forest, tree, bond.second, bond.first)
+        lower_block(graph, forest, tree, bond.second, bond.first)
     }
 }
 
 /// The block of the bond between an atom and one that was found later.
-fn lower_block(mol: &Mol, forest: &Forest, tree: &BlockTree, upper: AtomId, lower: AtomId) -> u32
-    requires joined { are_joined mol.now.bonds upper.0 lower.0 ≡ true }
-    requires forest { IsForest mol.now.bonds (length mol.now.atoms) forest.now.order.items forest.now.places.items forest.now.parents.items forest.now.roots.items }
-    requires tree { Blocked mol.now.bonds (length mol.now.atoms) forest.now.places.items forest.now.parents.items tree.now.heads.items tree.now.firsts.items tree.now.above.items (length mol.now.atoms) }
+fn lower_block(
+    graph: &Graph<'_>,
+    forest: &Forest,
+    tree: &BlockTree,
+    upper: AtomId,
+    lower: AtomId,
+) -> u32
+    requires joined { are_joined graph.now.bonds upper.0 lower.0 ≡ true }
+    requires forest { IsForest graph.now.bonds graph.now.atoms forest.now.order.items forest.now.places.items forest.now.parents.items forest.now.roots.items }
+    requires tree { Blocked graph.now.bonds graph.now.atoms forest.now.places.items forest.now.parents.items tree.now.heads.items tree.now.firsts.items tree.now.above.items graph.now.atoms }
     requires later { IsLater forest.now.places.items upper.0 lower.0 }
     ensures { LowerEnd forest.now.places.items tree.now.above.items upper.0 lower.0 result }
 {

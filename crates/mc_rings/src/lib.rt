@@ -4,10 +4,8 @@
 mod block_order;
 mod block_tree;
 mod centres;
-mod forest;
 #[cfg(test)]
 mod large;
-mod lows;
 #[cfg(test)]
 mod order_checks;
 mod rings;

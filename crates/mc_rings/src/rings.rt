@@ -1,10 +1,8 @@
 use crate::block_order::block_order;
 use crate::block_tree::{block_tree, bond_blocks};
-use crate::forest::{forest_of, independent_count};
-use crate::lows::lows_of;
 use crate::sizes::ring_sizes;
 use mc_base::{AtomId, BondId, NoMemory};
-use mc_mol::Mol;
+use mc_mol::{Mol, forest_of, lows_of};
 use std::alloc::Global;
 use std::marker::Model;
 
@@ -21,13 +19,14 @@ pub struct Rings {
 
 impl Model for Rings {
     ghost use Rattle.std.specs.Prelude.{◌≤◌, length};
+    ghost use Rattle.mc_mol.specs.declared.limits.TheConstants.{ATOM_LIMIT};
     ghost use Rattle.mc_rings.specs.Rings.{RingList};
 
     ghost Value = { RingList };
 
     ghost view = { λ r. record { sizes = r.sizes.items; blocks = r.blocks.items; independent = r.independent; order = r.order.items; firsts = r.firsts.items; above = r.above.items } };
 
-    ghost invariant = { λ r. length r.firsts.items ≤ 999 };
+    ghost invariant = { λ r. length r.firsts.items ≤ ATOM_LIMIT };
 }
 
 impl Rings {
@@ -40,12 +39,13 @@ impl Rings {
     pub fn of(alloc: Global, mol: &Mol) -> Result<Rings, NoMemory>
         ensures { IfOk result (λ rings. AreRingsOf mol.now rings) }
     {
-        let forest = forest_of(alloc, mol)?;
-        let lows = lows_of(alloc, mol, &forest)?;
-        let tree = block_tree(alloc, mol, &forest, &lows)?;
-        let blocks = bond_blocks(alloc, mol, &forest, &tree)?;
+        let graph = mol.graph();
+        let forest = forest_of(alloc, &graph)?;
+        let lows = lows_of(alloc, &graph, &forest)?;
+        let tree = block_tree(alloc, &graph, &forest, &lows)?;
+        let blocks = bond_blocks(alloc, &graph, &forest, &tree)?;
         let sizes = ring_sizes(alloc, mol, &blocks, tree.firsts.len())?;
-        let independent = independent_count(mol, &forest);
+        let independent = forest.independent_rings(&graph);
         let order = block_order(alloc, &forest, &tree)?;
         Ok(Rings {
             sizes,

@@ -1,5 +1,6 @@
 ghost use Rattle.std.specs.Prelude.{◌≡◌, ◌<◌, ◌≤◌, ◌↔◌, ℕ, length, IfOk, IsTrue};
-ghost use Rattle.mc_rings.specs.Distances.{Mark, AreDistances};
+ghost use Rattle.mc_mol.specs.Numbered.{Mark};
+ghost use Rattle.mc_rings.specs.Distances.{AreDistances};
 
 use mc_base::{AtomId, NoMemory};
 use mc_mol::{Bond, Mol};
@@ -18,8 +19,9 @@ pub struct Search {
 impl Search {
     ghost use Rattle.std.specs.Prelude.{◌≡◌, ◌+◌, ◌^◌, ◌<◌, [], ◌∷◌, List, length, slice_set, replicate, None, Some, OnOk, IfOk, IsTrue, false, ℕ, ◌⊎◌};
     ghost use Rattle.mc_base.specs.declared.ids.AtomId.{AtomId as Atom};
-    ghost use Rattle.mc_rings.specs.Distances.{Mark, AreDistances};
-    ghost use Rattle.mc_rings.specs.Levels.{unmarked, Between, Keeps, Reaches, LevelDone, AtomDone};
+    ghost use Rattle.mc_mol.specs.Numbered.{Mark, unmarked, Keeps};
+    ghost use Rattle.mc_rings.specs.Distances.{AreDistances};
+    ghost use Rattle.mc_rings.specs.Levels.{Between, Reaches, LevelDone, AtomDone};
 
     /// The start has the number 0.
     fn new(alloc: Global, count: usize, start: AtomId) -> Result<Search, NoMemory>

@@ -1,5 +1,5 @@
 ghost use Rattle.std.specs.Prelude.{◌≡◌, ◌<◌, ◌≤◌, ℕ, Option, Some, length, slice_get, IfOk};
-ghost use Rattle.mc_rings.specs.ClosedPaths.{RingSizeAt};
+ghost use Rattle.mc_rings.specs.RingSizes.{RingSizeAt};
 ghost use Rattle.mc_rings.specs.Rings.{AreBlocks};
 ghost use Rattle.mc_rings.specs.Counts.{AreBelow, Counted};
 

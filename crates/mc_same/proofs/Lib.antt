@@ -1,4 +1,3 @@
-pub mod Joining
 pub mod Between
 pub mod Neighbours
 pub mod SidesDecided

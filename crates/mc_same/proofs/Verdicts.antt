@@ -6,7 +6,7 @@ use Rattle.mc_base.specs.declared.verdict.Verdict.TheVariants.{True, Length, Ran
 use Rattle.mc_mol.specs.Molecule.{Molecule}
 use Rattle.mc_mol.specs.Same.{Same}
 use Rattle.mc_same.specs.Differences.{IsVerdict, SameGraph, CentreAgrees, SidesAgree, Holds}
-use Rattle.mc_same.proofs.Joining.{at_get}
+use Rattle.std.proofs.lemmas.Option.{slice_get_within}
 
 pub same_at_last : (m n : Molecule) (f : List AtomId) → SameGraph m n f → Holds (length f) (CentreAgrees m n f) → Holds (length n.bonds) (SidesAgree m n f) → Same m n f
 same_at_last m n f graph centres sides = record {
@@ -16,9 +16,9 @@ same_at_last m n f graph centres sides = record {
   distinct = λ j k less within e. graph.0.2 k within j less e;
   atoms = graph.1;
   length_bonds = graph.2;
-  bonds = λ k bond is. graph.3 k (at_get n.bonds k bond bond is).0 bond is;
+  bonds = λ k bond is. graph.3 k (slice_get_within n.bonds k bond is) bond is;
   centres = λ k q p less at_q at_p. centres k less q p at_q at_p;
-  sides = λ k l bond counterpart s t is_bond is_counterpart joined at_s at_t. sides k (at_get n.bonds k bond bond is_bond).0 l bond counterpart s t is_bond is_counterpart joined at_s at_t;
+  sides = λ k l bond counterpart s t is_bond is_counterpart joined at_s at_t. sides k (slice_get_within n.bonds k bond is_bond) l bond counterpart s t is_bond is_counterpart joined at_s at_t;
 }
 
 within_count : (count number : ℕ) → 1 ≤ number → number ≤ count → number - 1 < count

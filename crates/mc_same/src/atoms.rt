@@ -1,4 +1,5 @@
 ghost use Rattle.std.specs.Prelude.{◌≡◌, ◌≤◌, ◌<◌, ◌↔◌, IfOk, IsTrue, length};
+ghost use Rattle.mc_mol.specs.declared.limits.TheConstants.{ATOM_LIMIT};
 ghost use Rattle.mc_mol.specs.Same.{entry};
 ghost use Rattle.mc_same.specs.Differences.{FirstFailure, Holds, InRange, IsNew, SameAtom};
 
@@ -9,7 +10,7 @@ use std::alloc::Global;
 
 /// The number of the first entry of a map that is no atom of the input.
 pub fn first_out_of_range(input: &Mol, map: &[AtomId]) -> Option<u32>
-    requires { length map.now ≤ 999 }
+    requires { length map.now ≤ ATOM_LIMIT }
     ensures { FirstFailure (length map.now) (InRange input.now map.now) result }
 {
     let count = input.atom_count();
@@ -23,7 +24,7 @@ pub fn first_out_of_range(input: &Mol, map: &[AtomId]) -> Option<u32>
 
 /// The number of the first entry of a map that stood before. Atoms that have been met are marked.
 pub fn first_repeat(alloc: Global, map: &[AtomId], count: u32) -> Result<Option<u32>, NoMemory>
-    requires few { length map.now ≤ 999 }
+    requires few { length map.now ≤ ATOM_LIMIT }
     requires in_range { Holds (length map.now) (λ k. entry map.now k < count) }
     ensures { IfOk result (FirstFailure (length map.now) (IsNew map.now)) }
 {
@@ -55,7 +56,7 @@ fn same_atom(first: Atom, second: Atom) -> bool
 
 /// The number of the first atom that isn't equal to its atom of the input.
 pub fn first_other_atom(input: &Mol, output: &Mol, map: &[AtomId]) -> Option<u32>
-    requires few { length map.now ≤ 999 }
+    requires few { length map.now ≤ ATOM_LIMIT }
     requires same_length { length map.now ≡ length output.now.atoms }
     requires in_range { Holds (length map.now) (InRange input.now map.now) }
     ensures { FirstFailure (length map.now) (SameAtom input.now output.now map.now) result }

@@ -1,5 +1,5 @@
 ghost use Rattle.std.specs.Prelude.{◌≡◌, ◌≢◌, ◌≤◌, ◌<◌, ◌↔◌, IfSome, IsSome, length};
-ghost use Rattle.mc_mol.specs.Molecule.{joins};
+ghost use Rattle.mc_mol.specs.declared.limits.TheConstants.{BOND_LIMIT};
 ghost use Rattle.mc_mol.specs.Same.{HasBond, entry};
 ghost use Rattle.mc_mol.specs.WellFormed.{IsMolecule, IsBond};
 ghost use Rattle.mc_same.specs.Between.{FindsBond};
@@ -36,12 +36,6 @@ fn bond_at(mol: &Mol, u: AtomId, v: AtomId) -> Option<BondId>
     None
 }
 
-fn joins(bond: Bond, u: AtomId, v: AtomId) -> bool
-    ensures { result ≡ joins bond u.0 v.0 }
-{
-    (bond.first.0 == u.0 && bond.second.0 == v.0) || (bond.first.0 == v.0 && bond.second.0 == u.0)
-}
-
 /// The same. The bond of a number that is at hand is looked at first.
 fn bond_near(mol: &Mol, u: AtomId, v: AtomId, near: u32) -> Option<BondId>
     requires first { u.0 < length mol.now.atoms }
@@ -49,7 +43,7 @@ fn bond_near(mol: &Mol, u: AtomId, v: AtomId, near: u32) -> Option<BondId>
     requires different { u.0 ≢ v.0 }
     ensures { FindsBond mol.now u.0 v.0 result }
 {
-    if near < mol.bond_count() && joins(mol.bond(BondId(near)), u, v) {
+    if near < mol.bond_count() && mol.bond(BondId(near)).joins(u, v) {
         return Some(BondId(near));
     }
     bond_between(mol, u, v)
@@ -62,7 +56,7 @@ fn counterpart(input: &Mol, map: &[AtomId], bond: Bond, near: u32) -> Option<Bon
     requires in_range { Holds (length map.now) (InRange input.now map.now) }
     requires new { Holds (length map.now) (IsNew map.now) }
     ensures found { IsSome result ↔ HasBond input.now.bonds (entry map.now bond.first.0) (entry map.now bond.second.0) bond.order }
-    ensures within { IfSome result (λ found. found.0 < 999) }
+    ensures within { IfSome result (λ found. found.0 < BOND_LIMIT) }
 {
     let found = bond_near(
         input,

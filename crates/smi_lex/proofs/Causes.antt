@@ -1,6 +1,6 @@
 -- Why no token begins at a byte: what is found is what the definition says.
 use Rattle.std.proofs.Common.{arith, ◌≡◌, ◌==◌, ◌&&◌, ◌||◌, ◌⊎◌, ℕ, Bool, true, false, List, [], ◌∷◌, ◌++◌, Option, Some, None, refl, sym, ap, subst, ◌∙◌, inl, inr, if◌then◌else◌, append_assoc}
-use Rattle.std.proofs.lemmas.Bool.{eqb-true}
+use Rattle.std.proofs.lemmas.Bool.{eqb-true, and_parts}
 use Rattle.std.proofs.lemmas.Bool.Decides.{nat_tests}
 use Rattle.std.specs.Char.{is_ascii_lowercase, is_ascii_uppercase}
 use Rattle.mc_base.specs.declared.kind.Kind.{Kind}
@@ -13,9 +13,9 @@ use Rattle.smi_lex.specs.declared.symbol.Symbol.{Symbol}
 use Rattle.smi_lex.specs.Grammar.{lower_symbol, SpellsSymbol}
 use Rattle.smi_lex.specs.Fronts.{bracket_cause, cause, is_other_class, is_other_letters, number_front, starts_other_class, starts_wildcard, symbol_front}
 use Rattle.smi_lex.specs.Reading.{Begins, IsCause, IsOtherChirality, IsOtherClass, IsWildcard, OpensBracket}
-use Rattle.smi_lex.proofs.Sound.{both_true, isotope_sound, symbol_sound}
+use Rattle.smi_lex.proofs.Sound.{isotope_sound, symbol_sound}
 use Rattle.smi_lex.proofs.Complete.{First, behind_symbol_byte}
-use Rattle.smi_lex.proofs.TokenRead.{isotope_read, symbol_first, symbol_read}
+use Rattle.smi_lex.proofs.TokenRead.{isotope_read, symbol_first, symbol_read, named_so}
 
 if_case : {A : Type 0} (t : Bool) (x y z : A) (Q : Type 0) → (if t then x else y) ≡ z → (t ≡ true → x ≡ z → Q) → (t ≡ false → y ≡ z → Q) → Q
 if_case true x y z Q is here there = here refl is
@@ -45,7 +45,7 @@ other_letters_sound b c is =
 
     named : (m n : ℕ) → (b == m && c == n) ≡ true → 64 ∷ b ∷ c ∷ [] ≡ 64 ∷ m ∷ n ∷ []
     named m n t =
-        let both = both_true (b == m) (c == n) t in
+        let both = and_parts (b == m) (c == n) t in
         ap (λ x. 64 ∷ x ∷ c ∷ []) (eqb-true b m both.0) ∙ ap (λ x. 64 ∷ m ∷ x ∷ []) (eqb-true c n both.1)
 
 other_class_sound : (text : List ℕ) → is_other_class text ≡ true → Begins IsOtherClass text
@@ -53,7 +53,7 @@ other_class_sound [] is = cc
 other_class_sound (a ∷ []) is = cc
 other_class_sound (a ∷ b ∷ []) is = cc
 other_class_sound (a ∷ b ∷ c ∷ cs) is =
-    let both = both_true (a == 64) (is_other_letters b c) is in
+    let both = and_parts (a == 64) (is_other_letters b c) is in
     (64 ∷ b ∷ c ∷ [], cs, ap (λ x. x ∷ b ∷ c ∷ cs) (eqb-true a 64 both.0), other_letters_sound b c both.1)
 
 opens : (bs : List ℕ) → OpensBracket (91 ∷ (isotope_sound bs).front)
@@ -133,11 +133,8 @@ upper_not_star a is = grind (arith, nat_tests)
 letters_not_star : (text rest : List ℕ) → is_symbol_text text ≡ true → starts_wildcard (text ++ rest) ≡ false
 letters_not_star [] rest is = cc
 letters_not_star (a ∷ []) rest is = upper_not_star a is
-letters_not_star (a ∷ b ∷ []) rest is = upper_not_star a (both_true (is_ascii_uppercase a) (is_ascii_lowercase b) is).0
+letters_not_star (a ∷ b ∷ []) rest is = upper_not_star a (and_parts (is_ascii_uppercase a) (is_ascii_lowercase b) is).0
 letters_not_star (a ∷ b ∷ c ∷ cs) rest is = cc
-
-named_so : {s text : List ℕ} → ◌≡◌ {A = Option (List ℕ)} (Some s) (Some text) → text ≡ s
-named_so is = cc
 
 lower_not_star : (e : Element) (text rest : List ℕ) → lower_symbol e ≡ Some text → starts_wildcard (text ++ rest) ≡ false
 lower_not_star B text rest is = rw (named_so is) refl

@@ -1,5 +1,6 @@
 -- Each part of a bracket is read to its end, whatever a bracket has behind it.
 use Rattle.std.proofs.Common.{arith, ◌≡◌, ◌+◌, ◌-◌, ◌*◌, ◌==◌, ◌||◌, ℕ, Bool, true, false, List, [], ◌∷◌, ◌++◌, Option, Some, None, refl, sym, ap, ◌∙◌, inl, inr, if◌then◌else◌}
+use Rattle.std.proofs.lemmas.Bool.{or_right, cond-true}
 use Rattle.std.proofs.lemmas.Bool.Decides.{nat_tests}
 use Rattle.std.specs.Prelude.{ℤ}
 use Rattle.std.specs.Char.{is_ascii_digit}
@@ -26,21 +27,13 @@ abbrev pub First : (ℕ → Bool) → List ℕ → Type 0
 First is [] = ⊥
 First is (b ∷ bs) = is b ≡ true
 
-pub pick_true : {A : Type 0} (t : Bool) (x y : A) → t ≡ true → (if t then x else y) ≡ x
-pick_true true x y is = refl
-pick_true false x y is = cc
-
-or_right : (s t : Bool) → t ≡ true → (s || t) ≡ true
-or_right true t is = refl
-or_right false t is = is
-
 -- ---- classes
 
 class_number_read : (digits rest : List ℕ) (value : ℕ) → IsNumeral 10 digits → value ≡ held (digits_value 10 digits)
     → class_number (digits ++ 93 ∷ rest) ≡ Some (value, 93 ∷ rest)
 class_number_read [] rest value numeral is = absurd (omega (arith, numeral.0))
 class_number_read (d ∷ ds) rest value numeral is =
-    pick_true (starts_digit (d ∷ ds ++ 93 ∷ rest)) (Some (number_front 0 (d ∷ ds ++ 93 ∷ rest))) None (is_digit d numeral.1.0)
+    cond-true (starts_digit (d ∷ ds ++ 93 ∷ rest)) (Some (number_front 0 (d ∷ ds ++ 93 ∷ rest))) None (is_digit d numeral.1.0)
     ∙ ap Some (number_read 0 0 (d ∷ ds) (93 ∷ rest) refl numeral.1 refl)
     ∙ ap (λ x. Some (x, 93 ∷ rest)) (sym is)
 
@@ -87,7 +80,7 @@ amount_read : (sign number : ℕ) (text : List ℕ) (b : ℕ) (bs : List ℕ) �
 amount_read sign number text b bs sign_not other stop (inl (alone, one)) =
     record { behind = []; joined = alone; read = rw (other, stop, one) refl }
 amount_read sign number text b bs sign_not other stop (inr (inl (twice, two))) =
-    record { behind = sign ∷ []; joined = twice; read = pick_true (sign == sign) (2, b ∷ bs) _ (grind (arith, nat_tests)) ∙ ap (λ x. (x, b ∷ bs)) (sym two) }
+    record { behind = sign ∷ []; joined = twice; read = cond-true (sign == sign) (2, b ∷ bs) _ (grind (arith, nat_tests)) ∙ ap (λ x. (x, b ∷ bs)) (sym two) }
 amount_read sign number text b bs sign_not other stop (inr (inr (digits, joined, writes))) =
     record { behind = digits; joined = joined; read = amount_digits sign number digits b bs sign_not stop writes }
 

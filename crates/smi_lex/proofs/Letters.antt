@@ -1,11 +1,12 @@
 -- Which letters need be looked up among the symbols of elements.
 use Rattle.std.proofs.Common.{arith, ◌≡◌, ◌==◌, ◌&&◌, ℕ, true, false, [], ◌∷◌, Some, None, refl}
+use Rattle.std.proofs.lemmas.Bool.{and_right}
 use Rattle.std.proofs.lemmas.Bool.Decides.{nat_tests}
 use Rattle.std.specs.Option.{option_or}
 use Rattle.std.specs.Char.{is_ascii_lowercase, is_ascii_uppercase}
 use Rattle.mc_elements.specs.Elements.{element_of}
 use Rattle.smi_lex.specs.Fronts.{in_case, lower_letter, lower_pair, symbol_letter, symbol_pair}
-use Rattle.smi_lex.proofs.TokenRead.{and_false, no_element}
+use Rattle.smi_lex.proofs.TokenRead.{no_element}
 
 not_upper : (b : ℕ) → is_ascii_lowercase b ≡ true → is_ascii_uppercase b ≡ false
 not_upper b is = grind (arith, nat_tests)
@@ -36,9 +37,9 @@ letter_upper a other =
 -- the second letter of a symbol is in lower case
 pub pair_none : (a b : ℕ) → is_ascii_lowercase b ≡ false → symbol_pair a b ≡ None
 pair_none a b other =
-    let upper : element_of (a ∷ b ∷ []) ≡ None = no_element (a ∷ b ∷ []) (and_false (is_ascii_uppercase a) (is_ascii_lowercase b) other) in
-    let se : (a == 115 && b == 101) ≡ false = and_false (a == 115) (b == 101) (not_e b other) in
-    let as_ : (a == 97 && b == 115) ≡ false = and_false (a == 97) (b == 115) (not_s b other) in
+    let upper : element_of (a ∷ b ∷ []) ≡ None = no_element (a ∷ b ∷ []) (and_right (is_ascii_uppercase a) (is_ascii_lowercase b) other) in
+    let se : (a == 115 && b == 101) ≡ false = and_right (a == 115) (b == 101) (not_e b other) in
+    let as_ : (a == 97 && b == 115) ≡ false = and_right (a == 97) (b == 115) (not_s b other) in
     rw (upper, se, as_) refl
   where
     not_e : (c : ℕ) → is_ascii_lowercase c ≡ false → (c == 101) ≡ false

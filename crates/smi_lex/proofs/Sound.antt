@@ -1,6 +1,6 @@
 -- What stands at the front is spelled as the grammar says: for each part of a token, and for tokens.
 use Rattle.std.proofs.Common.{arith, ◌≡◌, ◌≤◌, ◌+◌, ◌-◌, ◌*◌, ◌==◌, ◌&&◌, ℕ, Bool, true, false, List, [], ◌∷◌, ◌++◌, Option, Some, None, refl, sym, ap, subst, inl, inr, if◌then◌else◌}
-use Rattle.std.proofs.lemmas.Bool.{eqb-true}
+use Rattle.std.proofs.lemmas.Bool.{eqb-true, and_parts}
 use Rattle.std.specs.Prelude.{ℤ, pos, neg_ℤ}
 use Rattle.std.specs.Option.{option_or}
 use Rattle.std.specs.Char.{is_ascii_digit}
@@ -81,15 +81,11 @@ lower_letter_sound b e is =
     peel (b == 112) P e _ Q is4 (λ t same. lower_named P e 112 b refl (eqb-true b 112 t) same) (λ is5.
     peel (b == 98) B e _ Q is5 (λ t same. lower_named B e 98 b refl (eqb-true b 98 t) same) (λ none. cc))))))
 
-pub both_true : (s t : Bool) → (s && t) ≡ true → (s ≡ true) × (t ≡ true)
-both_true true t is = (refl, is)
-both_true false t is = cc
-
 lower_pair_sound : (a b : ℕ) (e : Element) → lower_pair a b ≡ Some e → lower_symbol e ≡ Some (a ∷ b ∷ [])
 lower_pair_sound a b e is =
     let Q : Type 0 = lower_symbol e ≡ Some (a ∷ b ∷ []) in
-    peel (a == 115 && b == 101) Se e _ Q is (λ t same. named Se 115 101 refl (both_true (a == 115) (b == 101) t) same) (λ is1.
-    peel (a == 97 && b == 115) As e _ Q is1 (λ t same. named As 97 115 refl (both_true (a == 97) (b == 115) t) same) (λ none. cc))
+    peel (a == 115 && b == 101) Se e _ Q is (λ t same. named Se 115 101 refl (and_parts (a == 115) (b == 101) t) same) (λ is1.
+    peel (a == 97 && b == 115) As e _ Q is1 (λ t same. named As 97 115 refl (and_parts (a == 97) (b == 115) t) same) (λ none. cc))
   where
     named : (k : Element) (m n : ℕ) → lower_symbol k ≡ Some (m ∷ n ∷ []) → ((a == m) ≡ true) × ((b == n) ≡ true) → k ≡ e
         → lower_symbol e ≡ Some (a ∷ b ∷ [])

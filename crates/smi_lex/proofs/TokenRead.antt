@@ -1,6 +1,6 @@
 -- A spelled token is found at the front of a text, but where a longer one begins there.
 use Rattle.std.proofs.Common.{arith, ◌≡◌, ◌<◌, ◌≤◌, ◌+◌, ◌-◌, ◌*◌, ◌==◌, ◌&&◌, ◌⊎◌, ℕ, zero, suc, Bool, true, false, List, [], ◌∷◌, ◌++◌, length, Option, Some, None, refl, sym, ap, subst, ◌∙◌, inl, inr, append_assoc}
-use Rattle.std.proofs.lemmas.Bool.{cases_Bool}
+use Rattle.std.proofs.lemmas.Bool.{cases_Bool, and_right}
 use Rattle.std.proofs.lemmas.Bool.Decides.{nat_tests}
 use Rattle.std.specs.Prelude.{ℤ, codes}
 use Rattle.std.specs.Char.{is_ascii_digit, is_ascii_lowercase, is_ascii_uppercase}
@@ -25,10 +25,6 @@ pub no_element : (text : List ℕ) → is_symbol_text text ≡ false → element
 no_element text other =
     no_element_of text (λ e is. let letters : is_symbol_text text ≡ true = ap is_symbol_text (sym is) ∙ is_symbol_text-symbol e in cc)
 
-pub and_false : (s t : Bool) → t ≡ false → (s && t) ≡ false
-and_false true t is = is
-and_false false t is = refl
-
 not_letter : (b : ℕ) → behind_symbol_byte b ≡ true
     → (is_ascii_lowercase b ≡ false) × ((b == 101) ≡ false) × ((b == 115) ≡ false) × (is_ascii_digit b ≡ false)
 not_letter b is = (grind (arith, nat_tests), grind (arith, nat_tests), grind (arith, nat_tests), grind (arith, nat_tests))
@@ -37,9 +33,9 @@ not_letter b is = (grind (arith, nat_tests), grind (arith, nat_tests), grind (ar
 no_pair : (a b : ℕ) → behind_symbol_byte b ≡ true → symbol_pair a b ≡ None
 no_pair a b stop =
     let n = not_letter b stop in
-    let upper : element_of (a ∷ b ∷ []) ≡ None = no_element (a ∷ b ∷ []) (and_false (is_ascii_uppercase a) (is_ascii_lowercase b) n.0) in
-    let se : (a == 115 && b == 101) ≡ false = and_false (a == 115) (b == 101) n.1 in
-    let as_ : (a == 97 && b == 115) ≡ false = and_false (a == 97) (b == 115) n.2 in
+    let upper : element_of (a ∷ b ∷ []) ≡ None = no_element (a ∷ b ∷ []) (and_right (is_ascii_uppercase a) (is_ascii_lowercase b) n.0) in
+    let se : (a == 115 && b == 101) ≡ false = and_right (a == 115) (b == 101) n.1 in
+    let as_ : (a == 97 && b == 115) ≡ false = and_right (a == 97) (b == 115) n.2 in
     rw (upper, se, as_) refl
 
 letter_read : (a b : ℕ) (bs : List ℕ) (found : Symbol) → behind_symbol_byte b ≡ true → symbol_letter a ≡ Some found
@@ -66,7 +62,7 @@ lower_two e a b bs low named =
     rw (none, named) refl
 
 -- the text of a lower-case symbol
-named_so : {s text : List ℕ} → ◌≡◌ {A = Option (List ℕ)} (Some s) (Some text) → text ≡ s
+pub named_so : {s text : List ℕ} → ◌≡◌ {A = Option (List ℕ)} (Some s) (Some text) → text ≡ s
 named_so is = cc
 
 lower_read : (e : Element) (text : List ℕ) (b : ℕ) (bs : List ℕ) → behind_symbol_byte b ≡ true → lower_symbol e ≡ Some text

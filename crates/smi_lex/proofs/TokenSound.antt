@@ -1,6 +1,6 @@
 -- A token that is found at the front of a text is spelled by what stands there.
 use Rattle.std.proofs.Common.{arith, ◌≡◌, ◌+◌, ◌-◌, ◌*◌, ◌==◌, ◌&&◌, ℕ, true, false, List, [], ◌∷◌, ◌++◌, Option, Some, None, refl, sym, ap, subst, ◌∙◌, inl, inr, if◌then◌else◌, append_assoc}
-use Rattle.std.proofs.lemmas.Bool.{eqb-true}
+use Rattle.std.proofs.lemmas.Bool.{eqb-true, and_parts}
 use Rattle.std.specs.Prelude.{option_map, option_and_then, codes}
 use Rattle.std.specs.Option.{option_or}
 use Rattle.std.specs.Char.{is_ascii_digit}
@@ -15,7 +15,7 @@ use Rattle.smi_lex.specs.declared.token.TokenKind.TheVariants.{Bare, Bracket, Bo
 use Rattle.smi_lex.specs.Grammar.{held, mark_text, Spells, SpellsClass}
 use Rattle.smi_lex.specs.Fronts.{bare_upper, before, behind_symbol, bond_mark, bracket_front, bracket_if, byte_kind, charge_front, chiral_front, class_front, class_number, closing, digit, hydrogens_front, letters_if, lower_letter, number_front, one_or_two_letters, percent_if, punctuation, starts_digit, symbol_front, token_front, two_digits}
 use Rattle.smi_lex.proofs.Numbers.{number_run}
-use Rattle.smi_lex.proofs.Sound.{Front, choose, peel, or_some, before_some, both_true, charge_sound, chiral_sound, hydrogens_sound, isotope_sound, one_digit, pair_of_digits, symbol_sound}
+use Rattle.smi_lex.proofs.Sound.{Front, choose, peel, or_some, before_some, charge_sound, chiral_sound, hydrogens_sound, isotope_sound, one_digit, pair_of_digits, symbol_sound}
 
 -- ---- classes
 
@@ -250,7 +250,7 @@ two_digits_sound a (b ∷ c ∷ cs) kind rest percent is =
     → Front (Spells kind) (a ∷ b ∷ c ∷ cs) rest) [
       | true ↦ λ digits found.
           let at = parts_of (Ring ((b - 48) * 10 + (c - 48)), cs) kind rest found in
-          let both = both_true (is_ascii_digit b) (is_ascii_digit c) digits in
+          let both = and_parts (is_ascii_digit b) (is_ascii_digit c) digits in
           let ring : Spells (Ring ((b - 48) * 10 + (c - 48))) (a ∷ b ∷ c ∷ []) =
           inr (b ∷ c ∷ [], ap (λ x. x ∷ b ∷ c ∷ []) percent, pair_of_digits 2 2 b c (omega arith) (omega arith) both.0 both.1) in
           record {

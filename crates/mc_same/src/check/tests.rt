@@ -36,40 +36,41 @@ fn join(mol: &mut Mol, u: u32, v: u32, order: u8) -> Result<(), Fail> {
 /// Glycine as it is written `NCC(=O)O`, with this order of its third bond.
 fn glycine(alloc: Global, order: u8) -> Result<Mol, Fail> {
     let mut mol = Mol::new(alloc);
-    mol.add_atom(atom(Element::N, 2)).ok().ok_or("memory")?;
-    mol.add_atom(atom(Element::C, 2)).ok().ok_or("memory")?;
-    mol.add_atom(atom(Element::C, 0)).ok().ok_or("memory")?;
-    mol.add_atom(atom(Element::O, 0)).ok().ok_or("memory")?;
-    mol.add_atom(atom(Element::O, 1)).ok().ok_or("memory")?;
-    join(&mut mol, 0, 1, 1)?;
-    join(&mut mol, 1, 2, 1)?;
-    join(&mut mol, 2, 3, order)?;
-    join(&mut mol, 2, 4, 1)?;
+    for (element, hydrogens) in [
+        (Element::N, 2),
+        (Element::C, 2),
+        (Element::C, 0),
+        (Element::O, 0),
+        (Element::O, 1),
+    ] {
+        mol.add_atom(atom(element, hydrogens)).ok().ok_or("memory")?;
+    }
+    for (u, v, order) in [(0, 1, 1), (1, 2, 1), (2, 3, order), (2, 4, 1)] {
+        join(&mut mol, u, v, order)?;
+    }
     Ok(mol)
+}
+
+/// The verdict on glycine and a molecule with this order of its third bond, under a map.
+fn verdict(alloc: Global, order: u8, map: &[AtomId]) -> Result<Verdict, Fail> {
+    let input = glycine(alloc, 2)?;
+    let output = glycine(alloc, order)?;
+    Ok(check_map(alloc, &input, &output, map)?)
 }
 
 #[test]
 fn a_map_is_checked(rt: HostRuntime) -> Result<(), Fail> {
     let alloc = rt.alloc();
-    let input = glycine(alloc, 2)?;
-    let output = glycine(alloc, 2)?;
-    let single = glycine(alloc, 1)?;
     let same = [AtomId(0), AtomId(1), AtomId(2), AtomId(3), AtomId(4)];
-    assert_eq!(rt; check_map(alloc, &input, &output, &same)?, Verdict::True);
-    assert_eq!(rt; check_map(alloc, &input, &single, &same)?, Verdict::Bond(3));
+    assert_eq!(rt; verdict(alloc, 2, &same)?, Verdict::True);
+    assert_eq!(rt; verdict(alloc, 1, &same)?, Verdict::Bond(3));
     let twice = [AtomId(0), AtomId(1), AtomId(2), AtomId(3), AtomId(3)];
-    assert_eq!(rt;
-        check_map(alloc, &input, &output, &twice)?,
-        Verdict::Repeat(5)
-    );
+    assert_eq!(rt; verdict(alloc, 2, &twice)?, Verdict::Repeat(5));
     let exchanged = [AtomId(0), AtomId(1), AtomId(2), AtomId(4), AtomId(3)];
-    assert_eq!(rt;
-        check_map(alloc, &input, &output, &exchanged)?,
-        Verdict::Atom(4)
-    );
+    assert_eq!(rt; verdict(alloc, 2, &exchanged)?, Verdict::Atom(4));
     let short = [AtomId(0), AtomId(1), AtomId(2), AtomId(3)];
-    assert_eq!(rt; check_map(alloc, &input, &output, &short)?, Verdict::Length);
+    assert_eq!(rt; verdict(alloc, 2, &short)?, Verdict::Length);
     let far = [AtomId(0), AtomId(1), AtomId(5), AtomId(9), AtomId(3)];
-    assert_eq!(rt; check_map(alloc, &input, &output, &far)?, Verdict::Range(3));
+    assert_eq!(rt; verdict(alloc, 2, &far)?, Verdict::Range(3));
     Ok(())
 }

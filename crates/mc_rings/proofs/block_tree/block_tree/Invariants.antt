@@ -4,5 +4,5 @@ use Rattle.mc_rings.proofs.block_tree.block_tree.Given as goal
 
 abbrev pub invariant-loop-done : goal.invariant-loop-done
 invariant-loop-done l = record {
-  tree : Blocked l.mol.bonds (length l.mol.atoms) l.forest.places.items l.forest.parents.items l.tree.heads.items l.tree.firsts.items l.tree.above.items l.done;
+  tree : Blocked l.graph.bonds l.graph.atoms l.forest.places.items l.forest.parents.items l.tree.heads.items l.tree.firsts.items l.tree.above.items l.done;
 }

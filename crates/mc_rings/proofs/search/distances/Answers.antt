@@ -1,7 +1,6 @@
 use Rattle.std.proofs.Common.{◌≡◌, ◌⊎◌, ℕ, length, List, subst, ap, arith}
 use Rattle.mc_base.specs.declared.ids.AtomId.{AtomId}
-use Rattle.mc_rings.specs.Distances.{Mark}
-use Rattle.mc_rings.specs.Levels.{unmarked}
+use Rattle.mc_mol.specs.Numbered.{Mark, unmarked}
 use Rattle.mc_rings.proofs.Levels.{begun_at, begun_few, next_begun, finished_at}
 use Rattle.mc_rings.proofs.search.distances.Goals as goal
 

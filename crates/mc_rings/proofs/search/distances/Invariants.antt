@@ -1,5 +1,6 @@
 use Rattle.std.proofs.Common.{◌≡◌, ◌+◌, ◌≤◌, [], length}
-use Rattle.mc_rings.specs.Levels.{unmarked, Between}
+use Rattle.mc_mol.specs.Numbered.{unmarked}
+use Rattle.mc_rings.specs.Levels.{Between}
 use Rattle.mc_rings.proofs.search.distances.Given as goal
 
 abbrev pub invariant-levels : goal.invariant-levels

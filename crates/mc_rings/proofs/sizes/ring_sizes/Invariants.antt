@@ -1,5 +1,5 @@
 use Rattle.std.proofs.Common.{◌≡◌, ℕ, Option, Some, length, slice_get}
-use Rattle.mc_rings.specs.ClosedPaths.{RingSizeAt}
+use Rattle.mc_rings.specs.RingSizes.{RingSizeAt}
 use Rattle.mc_rings.proofs.sizes.ring_sizes.Given as goal
 
 abbrev pub invariant-loop-k : goal.invariant-loop-k

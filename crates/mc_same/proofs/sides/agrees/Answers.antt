@@ -1,7 +1,7 @@
 use Rattle.std.proofs.Common.{arith, below_more, ◌∙◌, ◌<◌, ◌≤◌, ℕ, length, get_or, sym, subst, refl}
 use Rattle.mc_same.specs.Agreement.{AgreesFrom}
 use Rattle.mc_same.proofs.Between.{blank, half_to, every_half}
-use Rattle.mc_same.proofs.Neighbours.{joined_range}
+use Rattle.mc_mol.proofs.Neighbours.{joined_ends}
 use Rattle.mc_same.proofs.sides.agrees.Goals as goal
 use Rattle.mc_same.proofs.sides.agrees.Goals.{then-half-pair+else-not-agrees_from, else-half-pair}
 
@@ -33,6 +33,6 @@ returns c =
     let past : length halves ≤ c.loop-half.half-index = omega arith in (
       (λ _. every_half n pair.bond.first.0 pair.bond.second.0 halves c.loop-half.half-index _
           (λ (c2 : ℕ). AgreesFrom c.args.map.now n.bonds pair.bond pair.sides pair.counterpart pair.theirs c2)
-          c.bonds_of-half-items.ensures.value (λ v joined. (joined_range _ n.bonds pair.bond.first.0 v c.requires.well_formed.bonds joined).1) past c.loop-half.invariant),
+          c.bonds_of-half-items.ensures.value (λ v joined. (joined_ends _ n.bonds pair.bond.first.0 v c.requires.well_formed.bonds joined).different) past c.loop-half.invariant),
       (λ _. refl),
     )

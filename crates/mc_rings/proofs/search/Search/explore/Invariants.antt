@@ -1,8 +1,8 @@
 use Rattle.std.proofs.Common.{◌≡◌, ◌+◌, List, length}
 use Rattle.mc_base.specs.declared.ids.AtomId.{AtomId}
 use Rattle.mc_mol.specs.HalfEdges.{half_edges, AllHaveTwins}
-use Rattle.mc_rings.specs.Distances.{Mark}
-use Rattle.mc_rings.specs.Levels.{unmarked, Between, Keeps}
+use Rattle.mc_mol.specs.Numbered.{Mark, unmarked, Keeps}
+use Rattle.mc_rings.specs.Levels.{Between}
 use Rattle.mc_rings.proofs.Levels.{Following}
 use Rattle.mc_rings.proofs.search.Search.explore.Given as goal
 

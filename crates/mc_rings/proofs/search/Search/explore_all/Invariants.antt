@@ -1,6 +1,7 @@
 use Rattle.std.proofs.Common.{◌≡◌, ◌+◌, ◌<◌, ℕ, Some, length, slice_get}
 use Rattle.mc_base.specs.declared.ids.AtomId.{AtomId}
-use Rattle.mc_rings.specs.Levels.{unmarked, Between, Explored}
+use Rattle.mc_mol.specs.Numbered.{unmarked}
+use Rattle.mc_rings.specs.Levels.{Between, Explored}
 use Rattle.mc_rings.proofs.search.Search.explore_all.Given as goal
 
 abbrev pub invariant-loop-atom : goal.invariant-loop-atom
