@@ -4,7 +4,7 @@ use Rattle.std.specs.List.{list_all}
 use Rattle.std.specs.Prelude.{◌&&◌}
 use Rattle.std.proofs.lemmas.List.{append-nil, append_assoc, map-append, take_more}
 use Rattle.smi_lex.specs.declared.token.Token.{Token}
-use Rattle.smi_graph.specs.declared.skeleton.SkelAtom.{SkelAtom}
+use Rattle.smi_graph.specs.declared.skel_atom.SkelAtom.{SkelAtom}
 use Rattle.smi_graph.specs.Roles.{atom_of, atoms_of}
 use Rattle.smi_graph.specs.Reading.{held_atom}
 

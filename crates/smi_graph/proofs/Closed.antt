@@ -6,7 +6,7 @@ use Rattle.std.proofs.lemmas.List.{append-nil, append_assoc, reverse-append}
 use Rattle.smi_graph.specs.declared.role.Role.{Role}
 use Rattle.smi_graph.specs.declared.role.Role.TheVariants.{Atom, Bond, Ring, Enter, Leave, Dot}
 use Rattle.smi_graph.specs.Order.{depth, depth_behind, stays_open, is_enter, tokens_before, unclosed_at}
-use Rattle.smi_graph.specs.Reading.{unmatched}
+use Rattle.smi_graph.specs.Firsts.{unmatched}
 use Rattle.smi_graph.proofs.Prefixes.{all_before}
 use Rattle.smi_graph.proofs.Unmatched.{stays_open_is}
 
@@ -28,7 +28,7 @@ none_on (k ∷ later) before e none is = none_on later (k ∷ before) e (ap (λ 
 -- the depth falls by no more than the `)` that close what was open before
 falls : (later before : List Role) (d e : ℕ) → depth before ≡ Some d → depth (reverse later ++ before) ≡ Some e → d ≤ e + unmatched later
 falls [] before d e is ends = let s = same_depth d e (sym is ∙ ends) in omega arith
-falls (Atom ∷ later) before d e is ends = falls later (Atom ∷ before) d e (ap (λ (o : Option ℕ). depth_behind o Atom) is) (sym (onto Atom later before) ∙ ends)
+falls (Atom lower ∷ later) before d e is ends = falls later (Atom lower ∷ before) d e (ap (λ (o : Option ℕ). depth_behind o (Atom lower)) is) (sym (onto (Atom lower) later before) ∙ ends)
 falls (Bond mark ∷ later) before d e is ends = falls later (Bond mark ∷ before) d e (ap (λ (o : Option ℕ). depth_behind o (Bond mark)) is) (sym (onto (Bond mark) later before) ∙ ends)
 falls (Ring number ∷ later) before d e is ends = falls later (Ring number ∷ before) d e (ap (λ (o : Option ℕ). depth_behind o (Ring number)) is) (sym (onto (Ring number) later before) ∙ ends)
 falls (Dot ∷ later) before d e is ends = falls later (Dot ∷ before) d e (ap (λ (o : Option ℕ). depth_behind o Dot) is) (sym (onto Dot later before) ∙ ends)
@@ -57,7 +57,7 @@ closed_from (k ∷ later) before ends zero = first k (sym (onto k later before) 
     first Enter ends (Some d) is =
         let h = falls later (Enter ∷ before) (d + 1) 0 (ap (λ (o : Option ℕ). depth_behind o Enter) is) ends in
         stays_open_is 0 later ∙ above (unmatched later) (omega arith)
-    first Atom ends o is = refl
+    first (Atom lower) ends o is = refl
     first (Bond mark) ends o is = refl
     first (Ring number) ends o is = refl
     first Leave ends o is = refl

@@ -3,10 +3,10 @@ use Rattle.std.proofs.Common.{arith, ◌≡◌, ◌∙◌, ℕ, zero, suc, ◌+�
 use Rattle.std.specs.Prelude.{◌⊎◌, nat_lt, if◌then◌else◌}
 use Rattle.std.proofs.lemmas.Bool.{cases_lt, cases_eq}
 use Rattle.std.proofs.lemmas.Bool.Decides.{nat_tests}
-use Rattle.smi_graph.specs.declared.ring_end.RingEnd.{RingEnd}
+use Rattle.smi_graph.specs.declared.ring_table.RingEnd.{RingEnd}
 use Rattle.smi_graph.specs.declared.role.Role.{Role}
 use Rattle.smi_graph.specs.Bonds.{open_end}
-use Rattle.smi_graph.specs.Reading.{lesser, IsFirstEnd, IsFirstOpen}
+use Rattle.smi_graph.specs.RingTables.{lesser, IsFirstEnd, IsFirstOpen}
 
 same_end : (a b : RingEnd) → Some a ≡ Some b → a ≡ b
 same_end a b h = cc

@@ -13,11 +13,11 @@ use Rattle.smi_lex.specs.declared.token.Token.{Token}
 use Rattle.smi_lex.specs.declared.token.TokenKind.{TokenKind}
 use Rattle.smi_lex.specs.declared.token.TokenKind.TheVariants as kind
 use Rattle.smi_graph.specs.declared.role.Role.{Role}
-use Rattle.smi_graph.specs.declared.skeleton.SkelAtom.{SkelAtom}
+use Rattle.smi_graph.specs.declared.skel_atom.SkelAtom.{SkelAtom}
 use Rattle.smi_graph.specs.Roles.{role_of, roles, atom_of, atoms_of}
 use Rattle.smi_graph.specs.Bonds.{atom_count}
 use Rattle.smi_graph.specs.Reading.{held_atom}
-use Rattle.smi_graph.specs.Rules.{limit, ring_limit, fails, is_heavy, is_high_class, is_overcharged, IsAbove, BeyondAt}
+use Rattle.smi_graph.specs.Rules.{limit, ring_limit, fails, has_high_isotope, has_high_class, has_high_charge, IsAbove, BeyondAt}
 
 same_over : (n : ℕ) → nat_lt limit (min n 65535) ≡ nat_lt limit n
 same_over n = grind (arith, nat_tests)
@@ -35,13 +35,13 @@ back : (p : SkelAtom → Bool) → ((atom : SkelAtom) → p (held_atom atom) ≡
     → (k : ℕ) × (place ≡ k + 1) × (fails p (slice_get all k) ≡ true) → (k : ℕ) × (place ≡ k + 1) × (fails p (slice_get (map held_atom all) k) ≡ true)
 back p same all place (k, at, holds) = (k, at, over_held p same all k ∙ holds)
 
-heavy_same : (atom : SkelAtom) → is_heavy (held_atom atom) ≡ is_heavy atom
+heavy_same : (atom : SkelAtom) → has_high_isotope (held_atom atom) ≡ has_high_isotope atom
 heavy_same atom = same_over atom.isotope
 
-class_same : (atom : SkelAtom) → is_high_class (held_atom atom) ≡ is_high_class atom
+class_same : (atom : SkelAtom) → has_high_class (held_atom atom) ≡ has_high_class atom
 class_same atom = same_over atom.class
 
-charge_same : (atom : SkelAtom) → is_overcharged (held_atom atom) ≡ is_overcharged atom
+charge_same : (atom : SkelAtom) → has_high_charge (held_atom atom) ≡ has_high_charge atom
 charge_same atom = refl
 
 size : (all : List SkelAtom) → length (map held_atom all) ≡ length all
@@ -52,18 +52,18 @@ pub beyond_real : (all : List SkelAtom) (bs : List bond.Bond) (kind : Kind) (pla
 beyond_real all bs LimitAtoms place w = subst (λ (n : ℕ). IsAbove n limit place) (size all) w
 beyond_real all bs LimitBonds place w = w
 beyond_real all bs LimitRings place w = subst (λ (n : ℕ). IsAbove (independent_rings bs n) ring_limit place) (size all) w
-beyond_real all bs LimitIsotope place w = moved is_heavy heavy_same all place w
-beyond_real all bs LimitClass place w = moved is_high_class class_same all place w
-beyond_real all bs LimitCharge place w = moved is_overcharged charge_same all place w
+beyond_real all bs LimitIsotope place w = moved has_high_isotope heavy_same all place w
+beyond_real all bs LimitClass place w = moved has_high_class class_same all place w
+beyond_real all bs LimitCharge place w = moved has_high_charge charge_same all place w
 beyond_real all bs _ place w = w
 
 pub beyond_held : (all : List SkelAtom) (bs : List bond.Bond) (kind : Kind) (place : ℕ) → BeyondAt all bs kind place → BeyondAt (map held_atom all) bs kind place
 beyond_held all bs LimitAtoms place w = subst (λ (n : ℕ). IsAbove n limit place) (sym (size all)) w
 beyond_held all bs LimitBonds place w = w
 beyond_held all bs LimitRings place w = subst (λ (n : ℕ). IsAbove (independent_rings bs n) ring_limit place) (sym (size all)) w
-beyond_held all bs LimitIsotope place w = back is_heavy heavy_same all place w
-beyond_held all bs LimitClass place w = back is_high_class class_same all place w
-beyond_held all bs LimitCharge place w = back is_overcharged charge_same all place w
+beyond_held all bs LimitIsotope place w = back has_high_isotope heavy_same all place w
+beyond_held all bs LimitClass place w = back has_high_class class_same all place w
+beyond_held all bs LimitCharge place w = back has_high_charge charge_same all place w
 beyond_held all bs _ place w = w
 
 -- within the limits
@@ -71,13 +71,13 @@ beyond_held all bs _ place w = w
 small : (n : ℕ) → nat_lt limit n ≡ false → min n 65535 ≡ n
 small n h = grind (arith, nat_tests)
 
-held_is : (atom : SkelAtom) → is_heavy atom ≡ false → is_high_class atom ≡ false → held_atom atom ≡ atom
-held_is atom light low = ap (λ (n : ℕ). record atom { isotope = n; class = min atom.class 65535 }) (small atom.isotope light) ∙ ap (λ (n : ℕ). record atom { class = n }) (small atom.class low)
+held_is : (atom : SkelAtom) → has_high_isotope atom ≡ false → has_high_class atom ≡ false → held_atom atom ≡ atom
+held_is atom within low = ap (λ (n : ℕ). record atom { isotope = n; class = min atom.class 65535 }) (small atom.isotope within) ∙ ap (λ (n : ℕ). record atom { class = n }) (small atom.class low)
 
-pub all_held : (all : List SkelAtom) → ((k : ℕ) → fails is_heavy (slice_get all k) ≡ false) → ((k : ℕ) → fails is_high_class (slice_get all k) ≡ false) → map held_atom all ≡ all
-all_held [] light low = refl
-all_held (a ∷ all) light low =
-    ap (λ (x : SkelAtom). x ∷ map held_atom all) (held_is a (light 0) (low 0)) ∙ ap (λ (x : List SkelAtom). a ∷ x) (all_held all (λ k. light (suc k)) (λ k. low (suc k)))
+pub all_held : (all : List SkelAtom) → ((k : ℕ) → fails has_high_isotope (slice_get all k) ≡ false) → ((k : ℕ) → fails has_high_class (slice_get all k) ≡ false) → map held_atom all ≡ all
+all_held [] within low = refl
+all_held (a ∷ all) within low =
+    ap (λ (x : SkelAtom). x ∷ map held_atom all) (held_is a (within 0) (low 0)) ∙ ap (λ (x : List SkelAtom). a ∷ x) (all_held all (λ k. within (suc k)) (λ k. low (suc k)))
 
 -- Each token is an atom or none
 

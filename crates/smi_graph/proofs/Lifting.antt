@@ -9,7 +9,7 @@ use Rattle.smi_lex.specs.Reading.{IsCause}
 use Rattle.smi_lex.specs.Steps as lex
 use Rattle.smi_lex.specs.Tokens.{unread}
 use Rattle.smi_lex.proofs.Causes.{only_cause}
-use Rattle.smi_graph.specs.declared.fault.Fault.{Fault}
+use Rattle.smi_graph.specs.declared.first_faults.Fault.{Fault}
 use Rattle.smi_graph.specs.declared.role.Role.{Role}
 use Rattle.smi_graph.specs.Rules.{roles_in, atoms_in, bonds_in, byte_place, is_built, StopsAt, WrongAt, TokenFails, BeyondAt, BreaksAt}
 use Rattle.smi_graph.specs.Faults.{refusal_at, IsFirstFault}

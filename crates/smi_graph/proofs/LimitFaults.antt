@@ -8,9 +8,10 @@ use Rattle.mc_base.specs.declared.kind.Kind.TheVariants.{LimitAtoms, LimitBonds,
 use Rattle.mc_base.specs.Kinds.{number}
 use Rattle.mc_mol.specs.declared.parts.Bond as bond
 use Rattle.mc_mol.specs.Parts.{count_below, independent_rings}
-use Rattle.smi_graph.specs.declared.skeleton.SkelAtom.{SkelAtom}
-use Rattle.smi_graph.specs.Reading.{IsFirstOf, is_light}
-use Rattle.smi_graph.specs.Rules.{limit, ring_limit, fails, is_heavy, is_high_class, is_overcharged, IsAbove, AtomFails, BeyondAt}
+use Rattle.smi_graph.specs.declared.skel_atom.SkelAtom.{SkelAtom}
+use Rattle.smi_graph.specs.Firsts.{IsFirstOf}
+use Rattle.smi_graph.specs.Reading.{is_within_limits}
+use Rattle.smi_graph.specs.Rules.{limit, ring_limit, fails, has_high_isotope, has_high_class, has_high_charge, IsAbove, AtomFails, BeyondAt}
 use Rattle.smi_graph.specs.Faults.{IsFirstFault}
 use Rattle.smi_graph.proofs.TokenFaults.{not_both, past}
 
@@ -101,81 +102,81 @@ before_isotope all bs a b c LimitClass place less w = omega arith
 before_isotope all bs a b c LimitCharge place less w = omega arith
 before_isotope all bs a b c _ place less w = w
 
-pub shows_isotope : (all : List SkelAtom) (bs : List bond.Bond) (n : ℕ) → length all ≤ limit → length bs ≤ limit → independent_rings bs (length all) ≤ ring_limit → IsFirstOf (λ k. fails is_heavy (slice_get all k)) (length all) (Some n) → IsFirstFault (BeyondAt all bs) (Some (record { kind = LimitIsotope; place = n + 1 }))
+pub shows_isotope : (all : List SkelAtom) (bs : List bond.Bond) (n : ℕ) → length all ≤ limit → length bs ≤ limit → independent_rings bs (length all) ≤ ring_limit → IsFirstOf (λ k. fails has_high_isotope (slice_get all k)) (length all) (Some n) → IsFirstFault (BeyondAt all bs) (Some (record { kind = LimitIsotope; place = n + 1 }))
 shows_isotope all bs n a b c h = record {
   stands = (n, refl, h.1);
-  least = λ place w. first_atom all is_heavy n place h w;
+  least = λ place w. first_atom all has_high_isotope n place h w;
   first = before_isotope all bs a b c;
   reason = (refl, refl);
 }
 
-before_class : (all : List SkelAtom) (bs : List bond.Bond) → length all ≤ limit → length bs ≤ limit → independent_rings bs (length all) ≤ ring_limit → IsFirstOf (λ k. fails is_heavy (slice_get all k)) (length all) None → (kind : Kind) (place : ℕ) → number kind < 32 → BeyondAt all bs kind place → ⊥
+before_class : (all : List SkelAtom) (bs : List bond.Bond) → length all ≤ limit → length bs ≤ limit → independent_rings bs (length all) ≤ ring_limit → IsFirstOf (λ k. fails has_high_isotope (slice_get all k)) (length all) None → (kind : Kind) (place : ℕ) → number kind < 32 → BeyondAt all bs kind place → ⊥
 before_class all bs a b c d LimitAtoms place less w = above_limit _ _ place a w
 before_class all bs a b c d LimitBonds place less w = above_limit _ _ place b w
 before_class all bs a b c d LimitRings place less w = above_limit _ _ place c w
-before_class all bs a b c d LimitIsotope place less w = no_atom all is_heavy place d w
+before_class all bs a b c d LimitIsotope place less w = no_atom all has_high_isotope place d w
 before_class all bs a b c d LimitClass place less w = omega arith
 before_class all bs a b c d LimitCharge place less w = omega arith
 before_class all bs a b c d _ place less w = w
 
-pub shows_class : (all : List SkelAtom) (bs : List bond.Bond) (n : ℕ) → length all ≤ limit → length bs ≤ limit → independent_rings bs (length all) ≤ ring_limit → IsFirstOf (λ k. fails is_heavy (slice_get all k)) (length all) None → IsFirstOf (λ k. fails is_high_class (slice_get all k)) (length all) (Some n) → IsFirstFault (BeyondAt all bs) (Some (record { kind = LimitClass; place = n + 1 }))
+pub shows_class : (all : List SkelAtom) (bs : List bond.Bond) (n : ℕ) → length all ≤ limit → length bs ≤ limit → independent_rings bs (length all) ≤ ring_limit → IsFirstOf (λ k. fails has_high_isotope (slice_get all k)) (length all) None → IsFirstOf (λ k. fails has_high_class (slice_get all k)) (length all) (Some n) → IsFirstFault (BeyondAt all bs) (Some (record { kind = LimitClass; place = n + 1 }))
 shows_class all bs n a b c d h = record {
   stands = (n, refl, h.1);
-  least = λ place w. first_atom all is_high_class n place h w;
+  least = λ place w. first_atom all has_high_class n place h w;
   first = before_class all bs a b c d;
   reason = (refl, refl);
 }
 
-before_charge : (all : List SkelAtom) (bs : List bond.Bond) → length all ≤ limit → length bs ≤ limit → independent_rings bs (length all) ≤ ring_limit → IsFirstOf (λ k. fails is_heavy (slice_get all k)) (length all) None → IsFirstOf (λ k. fails is_high_class (slice_get all k)) (length all) None → (kind : Kind) (place : ℕ) → number kind < 33 → BeyondAt all bs kind place → ⊥
+before_charge : (all : List SkelAtom) (bs : List bond.Bond) → length all ≤ limit → length bs ≤ limit → independent_rings bs (length all) ≤ ring_limit → IsFirstOf (λ k. fails has_high_isotope (slice_get all k)) (length all) None → IsFirstOf (λ k. fails has_high_class (slice_get all k)) (length all) None → (kind : Kind) (place : ℕ) → number kind < 33 → BeyondAt all bs kind place → ⊥
 before_charge all bs a b c d e LimitAtoms place less w = above_limit _ _ place a w
 before_charge all bs a b c d e LimitBonds place less w = above_limit _ _ place b w
 before_charge all bs a b c d e LimitRings place less w = above_limit _ _ place c w
-before_charge all bs a b c d e LimitIsotope place less w = no_atom all is_heavy place d w
-before_charge all bs a b c d e LimitClass place less w = no_atom all is_high_class place e w
+before_charge all bs a b c d e LimitIsotope place less w = no_atom all has_high_isotope place d w
+before_charge all bs a b c d e LimitClass place less w = no_atom all has_high_class place e w
 before_charge all bs a b c d e LimitCharge place less w = omega arith
 before_charge all bs a b c d e _ place less w = w
 
-pub shows_charge : (all : List SkelAtom) (bs : List bond.Bond) (n : ℕ) → length all ≤ limit → length bs ≤ limit → independent_rings bs (length all) ≤ ring_limit → IsFirstOf (λ k. fails is_heavy (slice_get all k)) (length all) None → IsFirstOf (λ k. fails is_high_class (slice_get all k)) (length all) None → IsFirstOf (λ k. fails is_overcharged (slice_get all k)) (length all) (Some n) → IsFirstFault (BeyondAt all bs) (Some (record { kind = LimitCharge; place = n + 1 }))
+pub shows_charge : (all : List SkelAtom) (bs : List bond.Bond) (n : ℕ) → length all ≤ limit → length bs ≤ limit → independent_rings bs (length all) ≤ ring_limit → IsFirstOf (λ k. fails has_high_isotope (slice_get all k)) (length all) None → IsFirstOf (λ k. fails has_high_class (slice_get all k)) (length all) None → IsFirstOf (λ k. fails has_high_charge (slice_get all k)) (length all) (Some n) → IsFirstFault (BeyondAt all bs) (Some (record { kind = LimitCharge; place = n + 1 }))
 shows_charge all bs n a b c d e h = record {
   stands = (n, refl, h.1);
-  least = λ place w. first_atom all is_overcharged n place h w;
+  least = λ place w. first_atom all has_high_charge n place h w;
   first = before_charge all bs a b c d e;
   reason = (refl, refl);
 }
 
-pub shows_no_limit : (all : List SkelAtom) (bs : List bond.Bond) → length all ≤ limit → length bs ≤ limit → independent_rings bs (length all) ≤ ring_limit → IsFirstOf (λ k. fails is_heavy (slice_get all k)) (length all) None → IsFirstOf (λ k. fails is_high_class (slice_get all k)) (length all) None → IsFirstOf (λ k. fails is_overcharged (slice_get all k)) (length all) None → IsFirstFault (BeyondAt all bs) None
+pub shows_no_limit : (all : List SkelAtom) (bs : List bond.Bond) → length all ≤ limit → length bs ≤ limit → independent_rings bs (length all) ≤ ring_limit → IsFirstOf (λ k. fails has_high_isotope (slice_get all k)) (length all) None → IsFirstOf (λ k. fails has_high_class (slice_get all k)) (length all) None → IsFirstOf (λ k. fails has_high_charge (slice_get all k)) (length all) None → IsFirstFault (BeyondAt all bs) None
 shows_no_limit all bs a b c d e f LimitAtoms place w = above_limit _ _ place a w
 shows_no_limit all bs a b c d e f LimitBonds place w = above_limit _ _ place b w
 shows_no_limit all bs a b c d e f LimitRings place w = above_limit _ _ place c w
-shows_no_limit all bs a b c d e f LimitIsotope place w = no_atom all is_heavy place d w
-shows_no_limit all bs a b c d e f LimitClass place w = no_atom all is_high_class place e w
-shows_no_limit all bs a b c d e f LimitCharge place w = no_atom all is_overcharged place f w
+shows_no_limit all bs a b c d e f LimitIsotope place w = no_atom all has_high_isotope place d w
+shows_no_limit all bs a b c d e f LimitClass place w = no_atom all has_high_class place e w
+shows_no_limit all bs a b c d e f LimitCharge place w = no_atom all has_high_charge place f w
 shows_no_limit all bs a b c d e f _ place w = w
 
 -- the values of all atoms are within their limits
-pub record AreLight (all : List SkelAtom) : Type 0 where
-  pub isotopes : IsFirstOf (λ k. fails is_heavy (slice_get all k)) (length all) None
-  pub classes : IsFirstOf (λ k. fails is_high_class (slice_get all k)) (length all) None
-  pub charges : IsFirstOf (λ k. fails is_overcharged (slice_get all k)) (length all) None
+pub record AreWithinLimits (all : List SkelAtom) : Type 0 where
+  pub isotopes : IsFirstOf (λ k. fails has_high_isotope (slice_get all k)) (length all) None
+  pub classes : IsFirstOf (λ k. fails has_high_class (slice_get all k)) (length all) None
+  pub charges : IsFirstOf (λ k. fails has_high_charge (slice_get all k)) (length all) None
 
-none_of : (p : SkelAtom → Bool) → ((atom : SkelAtom) → is_light atom ≡ true → p atom ≡ false) → (all : List SkelAtom) → list_all is_light all ≡ true → (k : ℕ) → k < length all → fails p (slice_get all k) ≡ false
-none_of p light [] each k less = absurd (omega arith)
-none_of p light (atom ∷ all) each zero less = light atom (first (is_light atom) (list_all is_light all) each)
+none_of : (p : SkelAtom → Bool) → ((atom : SkelAtom) → is_within_limits atom ≡ true → p atom ≡ false) → (all : List SkelAtom) → list_all is_within_limits all ≡ true → (k : ℕ) → k < length all → fails p (slice_get all k) ≡ false
+none_of p within [] each k less = absurd (omega arith)
+none_of p within (atom ∷ all) each zero less = within atom (first (is_within_limits atom) (list_all is_within_limits all) each)
   where
     first : (t u : Bool) → (t && u) ≡ true → t ≡ true
     first true u h = refl
     first false u h = h
-none_of p light (atom ∷ all) each (suc k) less = none_of p light all (later (is_light atom) (list_all is_light all) each) k (omega arith)
+none_of p within (atom ∷ all) each (suc k) less = none_of p within all (later (is_within_limits atom) (list_all is_within_limits all) each) k (omega arith)
   where
     later : (t u : Bool) → (t && u) ≡ true → u ≡ true
     later true u h = h
     later false u h = cc
 
-pub all_light : (all : List SkelAtom) → list_all is_light all ≡ true → AreLight all
-all_light all each = record {
-  isotopes = none_of is_heavy (λ atom h. first (is_heavy atom) (is_high_class atom || is_overcharged atom) h) all each;
-  classes = none_of is_high_class (λ atom h. middle (is_heavy atom) (is_high_class atom) (is_overcharged atom) h) all each;
-  charges = none_of is_overcharged (λ atom h. last (is_heavy atom) (is_high_class atom) (is_overcharged atom) h) all each;
+pub all_within_limits : (all : List SkelAtom) → list_all is_within_limits all ≡ true → AreWithinLimits all
+all_within_limits all each = record {
+  isotopes = none_of has_high_isotope (λ atom h. first (has_high_isotope atom) (has_high_class atom || has_high_charge atom) h) all each;
+  classes = none_of has_high_class (λ atom h. middle (has_high_isotope atom) (has_high_class atom) (has_high_charge atom) h) all each;
+  charges = none_of has_high_charge (λ atom h. last (has_high_isotope atom) (has_high_class atom) (has_high_charge atom) h) all each;
 }
   where
     first : (t u : Bool) → not (t || u) ≡ true → t ≡ false

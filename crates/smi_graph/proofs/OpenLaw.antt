@@ -7,14 +7,14 @@ use Rattle.smi_graph.specs.declared.role.Role.{Role}
 use Rattle.smi_graph.specs.declared.role.Role.TheVariants.{Atom, Bond, Ring, Enter, Leave, Dot}
 use Rattle.smi_graph.specs.Order.{latest}
 use Rattle.smi_graph.specs.Bonds.{openers, closers, never_falls, latest_open, predecessor}
-use Rattle.smi_graph.specs.Reading.{open_once_closed, is_dot, unless_dot}
+use Rattle.smi_graph.specs.Branches.{open_once_closed, is_dot, unless_dot}
 
 -- how many branches are closed, going back over one more token
 abbrev passed : ℕ → Role → ℕ
 passed c Leave = suc c
 passed zero Enter = zero
 passed (suc c) Enter = c
-passed c Atom = c
+passed c (Atom lower) = c
 passed c (Bond mark) = c
 passed c (Ring number) = c
 passed c Dot = c
@@ -54,7 +54,7 @@ opens_of_pass [] c h = (refl, omega arith)
 opens_of_pass (Leave ∷ ks) c h = let (f, n) = opens_of_pass ks (suc c) h in (both (never_falls ks) _ f (of_le _ _ (omega arith)), omega arith)
 opens_of_pass (Enter ∷ ks) zero h = let (f, n) = opens_of_pass ks zero h in (both (never_falls ks) _ f (of_le _ _ (omega arith)), omega arith)
 opens_of_pass (Enter ∷ ks) (suc c) h = let (f, n) = opens_of_pass ks c h in (both (never_falls ks) _ f (of_le _ _ (omega arith)), omega arith)
-opens_of_pass (Atom ∷ ks) c h = let (f, n) = opens_of_pass ks c h in (both (never_falls ks) _ f (of_le _ _ (omega arith)), n)
+opens_of_pass (Atom lower ∷ ks) c h = let (f, n) = opens_of_pass ks c h in (both (never_falls ks) _ f (of_le _ _ (omega arith)), n)
 opens_of_pass (Bond mark ∷ ks) c h = let (f, n) = opens_of_pass ks c h in (both (never_falls ks) _ f (of_le _ _ (omega arith)), n)
 opens_of_pass (Ring number ∷ ks) c h = let (f, n) = opens_of_pass ks c h in (both (never_falls ks) _ f (of_le _ _ (omega arith)), n)
 opens_of_pass (Dot ∷ ks) c h = let (f, n) = opens_of_pass ks c h in (both (never_falls ks) _ f (of_le _ _ (omega arith)), n)
@@ -64,7 +64,7 @@ pass_of_opens [] c f n = omega arith
 pass_of_opens (Leave ∷ ks) c f n = pass_of_opens ks (suc c) (and_true (never_falls ks) _ f).0 (omega arith)
 pass_of_opens (Enter ∷ ks) zero f n = let g = (and_true (never_falls ks) _ f).0 in let m = never_count ks g in pass_of_opens ks zero g (omega arith)
 pass_of_opens (Enter ∷ ks) (suc c) f n = pass_of_opens ks c (and_true (never_falls ks) _ f).0 (omega arith)
-pass_of_opens (Atom ∷ ks) c f n = pass_of_opens ks c (and_true (never_falls ks) _ f).0 n
+pass_of_opens (Atom lower ∷ ks) c f n = pass_of_opens ks c (and_true (never_falls ks) _ f).0 n
 pass_of_opens (Bond mark ∷ ks) c f n = pass_of_opens ks c (and_true (never_falls ks) _ f).0 n
 pass_of_opens (Ring number ∷ ks) c f n = pass_of_opens ks c (and_true (never_falls ks) _ f).0 n
 pass_of_opens (Dot ∷ ks) c f n = pass_of_opens ks c (and_true (never_falls ks) _ f).0 n
@@ -79,10 +79,10 @@ not_true false h = refl
 -- walking back with the tokens behind, and with the number of branches that these close
 found : (before later : List Role) (c : ℕ) → pass 0 later ≡ c → latest_open later before ≡ open_once_closed c before
 found [] later c h = refl
-found (Atom ∷ before) later zero h = rw (opens_of_pass later 0 h).0 refl
-found (Atom ∷ before) later (suc c) h =
+found (Atom lower ∷ before) later zero h = rw (opens_of_pass later 0 h).0 refl
+found (Atom lower ∷ before) later (suc c) h =
     let shut : never_falls later ≡ false = not_true (never_falls later) (λ f. let m = never_count later f in not_suc (pass 0 later) c h (pass_of_opens later 0 f (omega arith))) in
-    rw shut (found before (later ++ Atom ∷ []) (suc c) (pass_push 0 later Atom ∙ h))
+    rw shut (found before (later ++ Atom lower ∷ []) (suc c) (pass_push 0 later (Atom lower) ∙ h))
 found (Leave ∷ before) later c h = found before (later ++ Leave ∷ []) (suc c) (pass_push 0 later Leave ∙ ap (λ (x : ℕ). passed x Leave) h)
 found (Enter ∷ before) later zero h = found before (later ++ Enter ∷ []) zero (pass_push 0 later Enter ∙ ap (λ (x : ℕ). passed x Enter) h)
 found (Enter ∷ before) later (suc c) h = found before (later ++ Enter ∷ []) c (pass_push 0 later Enter ∙ ap (λ (x : ℕ). passed x Enter) h)
@@ -96,7 +96,7 @@ latest_open_is before = found before [] 0 refl
 pub predecessor_is : (before : List Role) → predecessor before ≡ unless_dot (is_dot (latest before)) (open_once_closed 0 before)
 predecessor_is [] = refl
 predecessor_is (Dot ∷ before) = refl
-predecessor_is (Atom ∷ before) = latest_open_is (Atom ∷ before)
+predecessor_is (Atom lower ∷ before) = latest_open_is (Atom lower ∷ before)
 predecessor_is (Bond mark ∷ before) = latest_open_is (Bond mark ∷ before)
 predecessor_is (Ring number ∷ before) = latest_open_is (Ring number ∷ before)
 predecessor_is (Enter ∷ before) = latest_open_is (Enter ∷ before)

@@ -6,7 +6,8 @@ use Rattle.smi_graph.specs.declared.role.Role.{Role}
 use Rattle.smi_graph.specs.declared.role.Role.TheVariants.{Atom, Bond, Ring, Enter, Leave, Dot}
 use Rattle.smi_graph.specs.Order.{latest}
 use Rattle.smi_graph.specs.Bonds.{mark_of}
-use Rattle.smi_graph.specs.Reading.{open_once_closed, return_atoms, mark_in}
+use Rattle.smi_graph.specs.Branches.{open_once_closed, return_atoms}
+use Rattle.smi_graph.specs.Reading.{mark_in}
 
 get_or_tail : (xs : List (Option ℕ)) (d : ℕ) → get_or xs (suc d) None ≡ get_or (drop 1 xs) d None
 get_or_tail [] d = refl
@@ -14,7 +15,7 @@ get_or_tail (x ∷ xs) d = refl
 
 pub open_behind : (before : List Role) (d : ℕ) → open_once_closed (suc d) before ≡ get_or (return_atoms before) d None
 open_behind [] d = refl
-open_behind (Atom ∷ before) d = open_behind before d
+open_behind (Atom lower ∷ before) d = open_behind before d
 open_behind (Bond mark ∷ before) d = open_behind before d
 open_behind (Ring number ∷ before) d = open_behind before d
 open_behind (Dot ∷ before) d = open_behind before d
@@ -37,7 +38,7 @@ pop_reversed (y ∷ ys) new (Some x) e none =
 -- the bond symbol directly before is the latest token, where that is one
 pub mark_of_is : (before : List Role) → mark_of before ≡ mark_in (latest before)
 mark_of_is [] = refl
-mark_of_is (Atom ∷ before) = refl
+mark_of_is (Atom lower ∷ before) = refl
 mark_of_is (Bond mark ∷ before) = refl
 mark_of_is (Ring number ∷ before) = refl
 mark_of_is (Enter ∷ before) = refl

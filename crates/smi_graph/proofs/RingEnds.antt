@@ -3,11 +3,11 @@ use Rattle.std.proofs.Common.{◌≡◌, ◌≢◌, ◌∙◌, ℕ, zero, suc, L
 use Rattle.std.specs.Prelude.{◌==◌, not, if◌then◌else◌}
 use Rattle.std.proofs.lemmas.Bool.{cases_eq, false≢true}
 use Rattle.std.proofs.lemmas.Bool.Decides.{nat_tests}
-use Rattle.smi_graph.specs.declared.ring_end.RingEnd.{RingEnd}
+use Rattle.smi_graph.specs.declared.ring_table.RingEnd.{RingEnd}
 use Rattle.smi_graph.specs.declared.role.Role.{Role}
 use Rattle.smi_graph.specs.declared.role.Role.TheVariants.{Atom, Bond, Ring, Enter, Leave, Dot}
 use Rattle.smi_graph.specs.Bonds.{ring_count, is_even, ring_end, latest_end, open_end}
-use Rattle.smi_graph.specs.Reading.{turned}
+use Rattle.smi_graph.specs.RingTables.{turned}
 
 pub test_other : (p q : ℕ) → p ≢ q → (p == q) ≡ false
 test_other p q ne = grind (arith, nat_tests)
@@ -29,7 +29,7 @@ latest_some n (Ring m ∷ before) odd here = elim (cases_eq m n) [
   | inl e ↦ let t : (m == n) ≡ true = ap (λ (x : ℕ). x == n) e ∙ test_same n in rw t refl
   | inr ne ↦ let t = test_other m n ne in let odd' : is_even (ring_count n before) ≡ false = rw t at odd in rw t (latest_some n before odd' here)
 ]
-latest_some n (Atom ∷ before) odd here = latest_some n before odd here
+latest_some n (Atom lower ∷ before) odd here = latest_some n before odd here
 latest_some n (Bond mark ∷ before) odd here = latest_some n before odd here
 latest_some n (Enter ∷ before) odd here = latest_some n before odd here
 latest_some n (Leave ∷ before) odd here = latest_some n before odd here

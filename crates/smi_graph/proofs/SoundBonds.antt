@@ -1,4 +1,7 @@
 -- The bonds of tokens join different atoms, and no pair twice.
+use Rattle.std.specs.Prelude.{map, option_to_list}
+use Rattle.std.proofs.lemmas.List.{map-append}
+use Rattle.smi_graph.specs.Links.{bond_of}
 use Rattle.std.proofs.Common.{arith, ◌≡◌, ◌≢◌, ◌∙◌, ℕ, zero, suc, ◌+◌, ◌-◌, ◌≤◌, ◌<◌, List, [], ◌∷◌, ◌++◌, length, get_or, Bool, true, false, Option, Some, None, refl, ap, sym, subst, inl, inr}
 use Rattle.std.specs.List.{All, AllPairs, list_any}
 use Rattle.std.specs.Prelude.{◌==◌, ◌||◌, ◌&&◌, if◌then◌else◌}
@@ -11,12 +14,14 @@ use Rattle.mc_mol.specs.Molecule.{joins, are_joined}
 use Rattle.mc_mol.specs.WellFormed.{IsBond}
 use Rattle.smi_lex.specs.declared.token.BondMark.{BondMark}
 use Rattle.smi_lex.specs.declared.token.BondMark.TheVariants.{Single, Double, Triple, Quadruple, Aromatic, Slash, Backslash}
-use Rattle.smi_graph.specs.declared.ring_end.RingEnd.{RingEnd}
+use Rattle.smi_graph.specs.declared.ring_table.RingEnd.{RingEnd}
 use Rattle.smi_graph.specs.declared.role.Role.{Role}
 use Rattle.smi_graph.specs.declared.role.Role.TheVariants.{Atom, Bond, Ring, Enter, Leave, Dot}
-use Rattle.smi_graph.specs.Bonds.{atom_count, never_falls, latest_open, predecessor, order_of, mark_of, or_else, ring_count, is_even, ring_end, latest_end, open_end, bond_between, chain_bond, ring_bond, bonds_at, bonds_of}
+use Rattle.smi_graph.specs.Bonds.{atom_count, never_falls, latest_open, predecessor, mark_of, ring_count, is_even, ring_end, latest_end, open_end, chain_bond, ring_bond, completed, text_bonds}
+use Rattle.smi_graph.specs.Links.{order_of, or_else, bond_between, bonds_of}
 use Rattle.smi_graph.specs.Order.{tokens_before}
-use Rattle.smi_graph.specs.RingRules.{is_pair_again, ends_pair_again, pair_again_at}
+use Rattle.smi_graph.specs.RingRules.{is_pair_again, pairs_again, pair_again_at}
+use Rattle.smi_graph.specs.declared.text_bond.TextBond.{TextBond}
 use Rattle.smi_graph.proofs.Prefixes.{tokens_before_more}
 use Rattle.smi_graph.specs.Skeletons.{AreBonds}
 use Rattle.smi_graph.proofs.RingEnds.{test_other, test_same}
@@ -26,10 +31,10 @@ some_is a b h = cc
 
 latest_below : (before later : List Role) (a : ℕ) → latest_open later before ≡ Some a → a < atom_count before
 latest_below [] later a h = cc
-latest_below (Atom ∷ before) later a h = by_test (never_falls later) (latest_below before (later ++ Atom ∷ []) a) h
+latest_below (Atom lower ∷ before) later a h = by_test (never_falls later) (latest_below before (later ++ Atom lower ∷ []) a) h
   where
-    by_test : (t : Bool) → (latest_open (later ++ Atom ∷ []) before ≡ Some a → a < atom_count before)
-        → (if t then Some (atom_count before) else latest_open (later ++ Atom ∷ []) before) ≡ Some a → a < atom_count before + 1
+    by_test : (t : Bool) → (latest_open (later ++ Atom lower ∷ []) before ≡ Some a → a < atom_count before)
+        → (if t then Some (atom_count before) else latest_open (later ++ Atom lower ∷ []) before) ≡ Some a → a < atom_count before + 1
     by_test true below h = let e : atom_count before ≡ a = some_is (atom_count before) a h in omega arith
     by_test false below h = let l = below h in omega arith
 latest_below (Bond mark ∷ before) later a h = latest_below before (later ++ Bond mark ∷ []) a h
@@ -41,7 +46,7 @@ latest_below (Dot ∷ before) later a h = latest_below before (later ++ Dot ∷ 
 pub predecessor_below : (before : List Role) (a : ℕ) → predecessor before ≡ Some a → a < atom_count before
 predecessor_below [] a h = cc
 predecessor_below (Dot ∷ before) a h = cc
-predecessor_below (Atom ∷ before) a h = latest_below (Atom ∷ before) [] a h
+predecessor_below (Atom lower ∷ before) a h = latest_below (Atom lower ∷ before) [] a h
 predecessor_below (Bond mark ∷ before) a h = latest_below (Bond mark ∷ before) [] a h
 predecessor_below (Ring number ∷ before) a h = latest_below (Ring number ∷ before) [] a h
 predecessor_below (Enter ∷ before) a h = latest_below (Enter ∷ before) [] a h
@@ -58,7 +63,7 @@ end_low n (Ring m ∷ before) end h = by_test (m == n) (end_low n before end) h
     by_test : (t : Bool) → (latest_end n before ≡ Some end → end.atom ≤ atom_count before - 1) → (if t then Some (ring_end before) else latest_end n before) ≡ Some end → end.atom ≤ atom_count before - 1
     by_test true low h = let e : ring_end before ≡ end = same_end (ring_end before) end h in let a : atom_count before - 1 ≡ end.atom = ap (λ (x : RingEnd). x.atom) e in omega arith
     by_test false low h = low h
-end_low n (Atom ∷ before) end h = let l = end_low n before end h in omega arith
+end_low n (Atom lower ∷ before) end h = let l = end_low n before end h in omega arith
 end_low n (Bond mark ∷ before) end h = end_low n before end h
 end_low n (Enter ∷ before) end h = end_low n before end h
 end_low n (Leave ∷ before) end h = end_low n before end h
@@ -141,17 +146,17 @@ one_atom_more n bonds sound = record { each = All-map (IsBond n) (IsBond (n + 1)
 no_bond_more : (n : ℕ) (bonds : List bond.Bond) → AreBonds n bonds → AreBonds n (bonds ++ [])
 no_bond_more n bonds sound = subst (λ (x : List bond.Bond). AreBonds n x) (sym (append-nil bonds)) sound
 
-chain_sound : (o : Option ℕ) (mark : Option BondMark) (n : ℕ) (bonds : List bond.Bond) → ((p : ℕ) → o ≡ Some p → p < n) → AreBonds n bonds → AreBonds (n + 1) (bonds ++ chain_bond o n mark)
+chain_sound : (o : Option ℕ) (mark : Option BondMark) (n : ℕ) (bonds : List bond.Bond) → ((p : ℕ) → o ≡ Some p → p < n) → AreBonds n bonds → AreBonds (n + 1) (bonds ++ map bond_of (option_to_list (chain_bond o n mark)))
 chain_sound None mark n bonds below sound = no_bond_more (n + 1) bonds (one_atom_more n bonds sound)
 chain_sound (Some p) mark n bonds below sound =
     let less = below p refl in
-    let o = order_bounds mark in
-    push_bond (n + 1) bonds (bond_between p n (order_of mark)) (one_atom_more n bonds sound)
+    let o = order_bounds (or_else mark None) in
+    push_bond (n + 1) bonds (bond_between p n (order_of (or_else mark None))) (one_atom_more n bonds sound)
     (record { first = omega arith; second = omega arith; different = λ e. omega arith; order_low = o.0; order_high = o.1 })
     (All-map (IsBond n) (λ c. joins c p n ≡ false) bonds (joins_new n p) sound.each)
 
-ring_sound : (o : Option RingEnd) (here : RingEnd) (n : ℕ) (bonds : List bond.Bond) → here.atom ≡ n - 1 → ((end : RingEnd) → o ≡ Some end → end.atom ≤ n - 1) → ends_pair_again bonds o here ≡ false → AreBonds n bonds
-    → AreBonds n (bonds ++ ring_bond o here)
+ring_sound : (o : Option RingEnd) (here : RingEnd) (n : ℕ) (bonds : List bond.Bond) → here.atom ≡ n - 1 → ((end : RingEnd) → o ≡ Some end → end.atom ≤ n - 1) → pairs_again bonds (ring_bond o here) ≡ false → AreBonds n bonds
+    → AreBonds n (bonds ++ map bond_of (option_to_list (ring_bond o here)))
 ring_sound None here n bonds last low fresh sound = no_bond_more n bonds sound
 ring_sound (Some other) here n bonds last low fresh sound =
     let f = or_false (other.atom == here.atom) (are_joined bonds other.atom here.atom) fresh in
@@ -169,35 +174,30 @@ ring_sound (Some other) here n bonds last low fresh sound =
       | inr ge ↦ absurd (ne (omega arith))
     ]
 
+-- one token more
+pub bonds_more : (before : List Role) (k : Role) → bonds_of (k ∷ before) ≡ bonds_of before ++ map bond_of (option_to_list (completed before k))
+bonds_more before k = map-append bond_of (text_bonds before) (option_to_list (completed before k))
+
+with_token : (n : ℕ) (before : List Role) (k : Role) → AreBonds n (bonds_of before ++ map bond_of (option_to_list (completed before k))) → AreBonds n (bonds_of (k ∷ before))
+with_token n before k sound = subst (λ (x : List bond.Bond). AreBonds n x) (sym (bonds_more before k)) sound
+
 pub bonds_sound : (before : List Role) → NeverPairs before → AreBonds (atom_count before) (bonds_of before)
 bonds_sound [] h = record { each = λ k d less. absurd (omega arith); once = λ i j d less within. absurd (omega arith) }
-bonds_sound (Atom ∷ before) h = chain_sound (predecessor before) (mark_of before) (atom_count before) (bonds_of before) (predecessor_below before) (bonds_sound before h.0)
-bonds_sound (Ring n ∷ before) h = ring_sound (open_end n before) (ring_end before) (atom_count before) (bonds_of before) refl (open_low n before) h.1 (bonds_sound before h.0)
-bonds_sound (Bond mark ∷ before) h = no_bond_more (atom_count before) (bonds_of before) (bonds_sound before h.0)
-bonds_sound (Enter ∷ before) h = no_bond_more (atom_count before) (bonds_of before) (bonds_sound before h.0)
-bonds_sound (Leave ∷ before) h = no_bond_more (atom_count before) (bonds_of before) (bonds_sound before h.0)
-bonds_sound (Dot ∷ before) h = no_bond_more (atom_count before) (bonds_of before) (bonds_sound before h.0)
+bonds_sound (Atom lower ∷ before) h = with_token (atom_count before + 1) before (Atom lower) (chain_sound (predecessor before) (mark_of before) (atom_count before) (bonds_of before) (predecessor_below before) (bonds_sound before h.0))
+bonds_sound (Ring n ∷ before) h = with_token (atom_count before) before (Ring n) (ring_sound (open_end n before) (ring_end before) (atom_count before) (bonds_of before) refl (open_low n before) h.1 (bonds_sound before h.0))
+bonds_sound (Bond mark ∷ before) h = with_token (atom_count before) before (Bond mark) (no_bond_more (atom_count before) (bonds_of before) (bonds_sound before h.0))
+bonds_sound (Enter ∷ before) h = with_token (atom_count before) before Enter (no_bond_more (atom_count before) (bonds_of before) (bonds_sound before h.0))
+bonds_sound (Leave ∷ before) h = with_token (atom_count before) before Leave (no_bond_more (atom_count before) (bonds_of before) (bonds_sound before h.0))
+bonds_sound (Dot ∷ before) h = with_token (atom_count before) before Dot (no_bond_more (atom_count before) (bonds_of before) (bonds_sound before h.0))
 
 -- a token completes one bond at most
-few_chain : (o : Option ℕ) (n : ℕ) (mark : Option BondMark) → length (chain_bond o n mark) ≤ 1
-few_chain None n mark = omega arith
-few_chain (Some p) n mark = omega arith
+few_at : (o : Option TextBond) → length (option_to_list o) ≤ 1
+few_at None = omega arith
+few_at (Some b) = omega arith
 
-few_ring : (o : Option RingEnd) (here : RingEnd) → length (ring_bond o here) ≤ 1
-few_ring None here = omega arith
-few_ring (Some other) here = omega arith
-
-few_at : (before : List Role) (k : Role) → length (bonds_at before k) ≤ 1
-few_at before Atom = few_chain (predecessor before) (atom_count before) (mark_of before)
-few_at before (Ring n) = few_ring (open_end n before) (ring_end before)
-few_at before (Bond mark) = omega arith
-few_at before Enter = omega arith
-few_at before Leave = omega arith
-few_at before Dot = omega arith
-
-pub few_bonds : (before : List Role) → length (bonds_of before) ≤ length before
+pub few_bonds : (before : List Role) → length (text_bonds before) ≤ length before
 few_bonds [] = omega arith
-few_bonds (k ∷ before) = let one = few_at before k in let rest = few_bonds before in let len = length-append (bonds_of before) (bonds_at before k) in omega arith
+few_bonds (k ∷ before) = let one = few_at (completed before k) in let rest = few_bonds before in let len = length-append (text_bonds before) (option_to_list (completed before k)) in omega arith
 
 -- no ring number joins what is joined already, as a test at each place says
 pub never_pairs : (ks : List Role) (n : ℕ) → n ≤ length ks → ((j : ℕ) → j < n → pair_again_at ks j ≡ false) → NeverPairs (tokens_before ks n)

@@ -7,20 +7,20 @@ use Rattle.std.proofs.lemmas.List.{length-map, length-reverse, take_all}
 use Rattle.mc_base.specs.declared.kind.Kind.{Kind}
 use Rattle.mc_base.specs.declared.kind.Kind.TheVariants.{RingPair, LimitAtoms, LimitBonds, LimitIsotope, LimitClass}
 use Rattle.mc_base.specs.Shown.{IsFirst}
-use Rattle.mc_mol.specs.declared.parts.Bond as bond
 use Rattle.smi_lex.specs.declared.token.Token.{Token}
 use Rattle.smi_lex.specs.Tokens.{tokens, unread}
-use Rattle.smi_graph.specs.declared.fault.Fault.{Fault}
+use Rattle.smi_graph.specs.declared.first_faults.Fault.{Fault}
 use Rattle.smi_graph.specs.declared.reader.Reader.{Reader}
 use Rattle.smi_graph.specs.declared.role.Role.{Role}
-use Rattle.smi_graph.specs.declared.skeleton.SkelAtom.{SkelAtom}
-use Rattle.smi_graph.specs.declared.skeleton.Skeleton.{Skeleton}
+use Rattle.smi_graph.specs.declared.skel_atom.SkelAtom.{SkelAtom}
+use Rattle.smi_graph.specs.declared.text_bond.TextBond.{TextBond}
 use Rattle.smi_graph.specs.Roles.{role_of, atoms_of}
 use Rattle.smi_graph.specs.RingRules.{pair_again_at}
 use Rattle.smi_graph.specs.Order.{tokens_before}
-use Rattle.smi_graph.specs.Bonds.{atom_count, bonds_of}
+use Rattle.smi_graph.specs.Bonds.{atom_count, text_bonds}
+use Rattle.smi_graph.specs.Links.{bond_of}
 use Rattle.smi_graph.specs.Reading.{held_atom, HasRead}
-use Rattle.smi_graph.specs.Rules.{roles_in, atoms_in, bonds_in, is_built, is_built_kind, limit, fails, is_heavy, is_high_class, WrongAt, BeyondAt, BreaksAt}
+use Rattle.smi_graph.specs.Rules.{roles_in, atoms_in, bonds_in, text_bonds_in, is_built, is_built_kind, limit, fails, has_high_isotope, has_high_class, WrongAt, BeyondAt, BreaksAt}
 use Rattle.smi_graph.specs.Faults.{refusal_at, IsFirstFault}
 use Rattle.smi_graph.specs.Skeletons.{AreBonds, IsNoBarrier, IsSkeleton}
 use Rattle.smi_graph.proofs.Prefixes.{all_before}
@@ -29,22 +29,22 @@ use Rattle.smi_graph.proofs.HeldAtoms.{beyond_real, beyond_held, all_held, count
 use Rattle.smi_graph.proofs.Lifting.{shows_beyond, shows_nothing}
 
 -- what the reader has of a text: its bonds, and its atoms as they are held
-pub record Has (text : List ℕ) (bs : List bond.Bond) (held : List SkelAtom) : Type 0 where
+pub record Has (text : List ℕ) (bs : List TextBond) (held : List SkelAtom) : Type 0 where
   pub whole : unread text ≡ []
   pub built : is_built text ≡ true
-  pub bonds : bs ≡ bonds_in text
+  pub bonds : bs ≡ text_bonds_in text
   pub atoms : held ≡ map held_atom (atoms_in text)
 
-pub has_all : (text : List ℕ) (r : Reader) → HasRead (tokens text) r → r.structure.builder.tokens ≡ length (tokens text) → unread text ≡ [] → r.all_built ≡ true
-    → Has text r.structure.builder.bonds.items r.atoms.items
+pub has_all : (text : List ℕ) (r : Reader) → HasRead (tokens text) r → r.structure.tokens ≡ length (tokens text) → unread text ≡ [] → r.all_built ≡ true
+    → Has text r.structure.bonds.items r.atoms.items
 has_all text r has all whole built =
-    let taken : take r.structure.builder.tokens (tokens text) ≡ tokens text = ap (λ (n : ℕ). take n (tokens text)) all ∙ take_all (length (tokens text)) (tokens text) (omega arith) in
-    let count : r.structure.builder.tokens ≡ length (roles_in text) = all ∙ sym (length-map (tokens text) (λ token. role_of token.kind)) in
-    let before : tokens_before (roles_in text) r.structure.builder.tokens ≡ reverse (roles_in text) = ap (tokens_before (roles_in text)) count ∙ all_before (roles_in text) in
+    let taken : take r.structure.tokens (tokens text) ≡ tokens text = ap (λ (n : ℕ). take n (tokens text)) all ∙ take_all (length (tokens text)) (tokens text) (omega arith) in
+    let count : r.structure.tokens ≡ length (roles_in text) = all ∙ sym (length-map (tokens text) (λ token. role_of token.kind)) in
+    let before : tokens_before (roles_in text) r.structure.tokens ≡ reverse (roles_in text) = ap (tokens_before (roles_in text)) count ∙ all_before (roles_in text) in
     record {
       whole = whole;
       built = ap (list_all (λ (token : Token). is_built_kind token.kind)) (sym taken) ∙ (sym has.built ∙ built);
-      bonds = has.follows.reads.bonds ∙ ap bonds_of before;
+      bonds = has.follows.reads.bonds ∙ ap text_bonds before;
       atoms = has.atoms ∙ ap (λ (x : List Token). map held_atom (atoms_of x)) taken;
     }
 
@@ -55,33 +55,33 @@ not_true false h = refl
 size : (text : List ℕ) (held : List SkelAtom) → held ≡ map held_atom (atoms_in text) → length held ≡ length (atoms_in text)
 size text held is = ap (λ (x : List SkelAtom). length x) is ∙ length-map (atoms_in text) held_atom
 
-pub sound : (text : List ℕ) (bs : List bond.Bond) (held : List SkelAtom) → Has text bs held → IsFirstFault (WrongAt (roles_in text)) None → AreBonds (length held) bs
+pub sound : (text : List ℕ) (bs : List TextBond) (held : List SkelAtom) → Has text bs held → IsFirstFault (WrongAt (roles_in text)) None → AreBonds (length held) (map bond_of bs)
 sound text bs held h right =
     let ks : List Role = roles_in text in
     let never : NeverPairs (reverse ks) = subst NeverPairs (all_before ks) (never_pairs ks (length ks) (omega arith) (λ j below. not_true (pair_again_at ks j) (λ holds. right RingPair j holds))) in
     let count : atom_count (reverse ks) ≡ length held = count_atoms (tokens text) ∙ sym (size text held h.atoms) in
-    subst (λ (n : ℕ). AreBonds n bs) count (subst (λ (x : List bond.Bond). AreBonds (atom_count (reverse ks)) x) (sym h.bonds) (bonds_sound (reverse ks) never))
+    subst (λ (n : ℕ). AreBonds n (map bond_of bs)) count (subst (λ (x : List TextBond). AreBonds (atom_count (reverse ks)) (map bond_of x)) (sym h.bonds) (bonds_sound (reverse ks) never))
 
-pub few : (text : List ℕ) (bs : List bond.Bond) (held : List SkelAtom) → Has text bs held → length held ≤ length (tokens text)
+pub few : (text : List ℕ) (bs : List TextBond) (held : List SkelAtom) → Has text bs held → length held ≤ length (tokens text)
 few text bs held h = let s = size text held h.atoms in let f = few_atoms (tokens text) in omega arith
 
-pub few_found : (text : List ℕ) (bs : List bond.Bond) (held : List SkelAtom) → Has text bs held → length bs ≤ length (tokens text)
+pub few_found : (text : List ℕ) (bs : List TextBond) (held : List SkelAtom) → Has text bs held → length bs ≤ length (tokens text)
 few_found text bs held h =
     let f = few_bonds (reverse (roles_in text)) in
     let r = length-reverse (roles_in text) in
     let n = length-map (tokens text) (λ (token : Token). role_of token.kind) in
-    let e : length bs ≡ length (bonds_in text) = ap (λ (x : List bond.Bond). length x) h.bonds in omega arith
+    let e : length bs ≡ length (text_bonds_in text) = ap (λ (x : List TextBond). length x) h.bonds in omega arith
 
-real : (text : List ℕ) (bs : List bond.Bond) (held : List SkelAtom) → Has text bs held → (kind : Kind) (place : ℕ) → BeyondAt held bs kind place → BeyondAt (atoms_in text) (bonds_in text) kind place
+real : (text : List ℕ) (bs : List TextBond) (held : List SkelAtom) → Has text bs held → (kind : Kind) (place : ℕ) → BeyondAt held (map bond_of bs) kind place → BeyondAt (atoms_in text) (bonds_in text) kind place
 real text bs held h kind place w =
-    beyond_real (atoms_in text) (bonds_in text) kind place (subst (λ (x : List bond.Bond). BeyondAt (map held_atom (atoms_in text)) x kind place) h.bonds (subst (λ (x : List SkelAtom). BeyondAt x bs kind place) h.atoms w))
+    beyond_real (atoms_in text) (bonds_in text) kind place (subst (λ (x : List TextBond). BeyondAt (map held_atom (atoms_in text)) (map bond_of x) kind place) h.bonds (subst (λ (x : List SkelAtom). BeyondAt x (map bond_of bs) kind place) h.atoms w))
 
-as_held : (text : List ℕ) (bs : List bond.Bond) (held : List SkelAtom) → Has text bs held → (kind : Kind) (place : ℕ) → BeyondAt (atoms_in text) (bonds_in text) kind place → BeyondAt held bs kind place
+as_held : (text : List ℕ) (bs : List TextBond) (held : List SkelAtom) → Has text bs held → (kind : Kind) (place : ℕ) → BeyondAt (atoms_in text) (bonds_in text) kind place → BeyondAt held (map bond_of bs) kind place
 as_held text bs held h kind place w =
-    subst (λ (x : List SkelAtom). BeyondAt x bs kind place) (sym h.atoms) (subst (λ (x : List bond.Bond). BeyondAt (map held_atom (atoms_in text)) x kind place) (sym h.bonds) (beyond_held (atoms_in text) (bonds_in text) kind place w))
+    subst (λ (x : List SkelAtom). BeyondAt x (map bond_of bs) kind place) (sym h.atoms) (subst (λ (x : List TextBond). BeyondAt (map held_atom (atoms_in text)) (map bond_of x) kind place) (sym h.bonds) (beyond_held (atoms_in text) (bonds_in text) kind place w))
 
-pub beyond : (text : List ℕ) (bs : List bond.Bond) (held : List SkelAtom) (fault : Fault) → Has text bs held
-    → IsFirstFault (WrongAt (roles_in text)) None → IsFirstFault (BeyondAt held bs) (Some fault) → IsFirst (BreaksAt text) IsNoBarrier (refusal_at fault.kind fault.place)
+pub beyond : (text : List ℕ) (bs : List TextBond) (held : List SkelAtom) (fault : Fault) → Has text bs held
+    → IsFirstFault (WrongAt (roles_in text)) None → IsFirstFault (BeyondAt held (map bond_of bs)) (Some fault) → IsFirst (BreaksAt text) IsNoBarrier (refusal_at fault.kind fault.place)
 beyond text bs held fault h right found = shows_beyond text fault h.whole h.built right (record {
   stands = real text bs held h fault.kind fault.place found.stands;
   least = λ place w. found.least place (as_held text bs held h fault.kind place w);
@@ -96,17 +96,19 @@ low n h = elim (cases_lt limit n) [
 ]
 
 -- a text with no fault
-pub nothing : (text : List ℕ) (skeleton : Skeleton) → Has text skeleton.bonds.items skeleton.atoms.items
-    → IsFirstFault (WrongAt (roles_in text)) None → IsFirstFault (BeyondAt skeleton.atoms.items skeleton.bonds.items) None → IsSkeleton text skeleton
-nothing text skeleton h right within =
-    let inside : IsFirstFault (BeyondAt (atoms_in text) (bonds_in text)) None = λ kind place w. within kind place (as_held text skeleton.bonds.items skeleton.atoms.items h kind place w) in
-    let light : (k : ℕ) → fails is_heavy (slice_get (atoms_in text) k) ≡ false = λ k. not_true _ (λ holds. inside LimitIsotope (k + 1) (k, refl, holds)) in
-    let classes : (k : ℕ) → fails is_high_class (slice_get (atoms_in text) k) ≡ false = λ k. not_true _ (λ holds. inside LimitClass (k + 1) (k, refl, holds)) in
+pub nothing : (text : List ℕ) (bs : List TextBond) (held : List SkelAtom) → Has text bs held
+    → IsFirstFault (WrongAt (roles_in text)) None → IsFirstFault (BeyondAt held (map bond_of bs)) None → IsSkeleton text (record { atoms = held; bonds = bs })
+nothing text bs held h right within =
+    let inside : IsFirstFault (BeyondAt (atoms_in text) (bonds_in text)) None = λ kind place w. within kind place (as_held text bs held h kind place w) in
+    let isotopes : (k : ℕ) → fails has_high_isotope (slice_get (atoms_in text) k) ≡ false = λ k. not_true _ (λ holds. inside LimitIsotope (k + 1) (k, refl, holds)) in
+    let classes : (k : ℕ) → fails has_high_class (slice_get (atoms_in text) k) ≡ false = λ k. not_true _ (λ holds. inside LimitClass (k + 1) (k, refl, holds)) in
     record {
       accepted = shows_nothing text h.whole h.built right inside;
-      atoms = h.atoms ∙ all_held (atoms_in text) light classes;
+      atoms = h.atoms ∙ all_held (atoms_in text) isotopes classes;
       bonds = h.bonds;
-      few_atoms = low (length skeleton.atoms.items) (λ more. within LimitAtoms (length skeleton.atoms.items) (refl, more));
-      few_bonds = low (length skeleton.bonds.items) (λ more. within LimitBonds (length skeleton.bonds.items) (refl, more));
-      sound = sound text skeleton.bonds.items skeleton.atoms.items h right;
+      limits = record {
+        few_atoms = low (length held) (λ more. within LimitAtoms (length held) (refl, more));
+        few_bonds = low (length bs) (λ more. within LimitBonds (length (map bond_of bs)) (refl, subst (λ (n : ℕ). limit < n) (sym (length-map bs bond_of)) more));
+        sound = sound text bs held h right;
+      };
     }

@@ -5,12 +5,13 @@ use Rattle.std.proofs.lemmas.Bool.{cases_lt, false≢true}
 use Rattle.mc_base.specs.declared.kind.Kind.{Kind}
 use Rattle.mc_base.specs.declared.kind.Kind.TheVariants.{BadOrder, ParenOpen, RingOpen, RingClash, RingPair}
 use Rattle.mc_base.specs.Kinds.{number}
-use Rattle.smi_graph.specs.declared.ring_end.RingEnd.{RingEnd}
+use Rattle.smi_graph.specs.declared.ring_table.RingEnd.{RingEnd}
 use Rattle.smi_graph.specs.declared.role.Role.{Role}
 use Rattle.smi_graph.specs.Order.{misplaced_at, unclosed_at}
 use Rattle.smi_graph.specs.Bonds.{open_end}
 use Rattle.smi_graph.specs.RingRules.{clash_at, pair_again_at}
-use Rattle.smi_graph.specs.Reading.{IsFirstOf, IsFirstOpen}
+use Rattle.smi_graph.specs.Firsts.{IsFirstOf}
+use Rattle.smi_graph.specs.RingTables.{IsFirstOpen}
 use Rattle.smi_graph.specs.Rules.{WrongAt}
 use Rattle.smi_graph.specs.Faults.{IsFirstFault}
 

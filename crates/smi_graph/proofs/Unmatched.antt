@@ -5,7 +5,7 @@ use Rattle.std.proofs.lemmas.Bool.Decides.{nat_tests}
 use Rattle.smi_graph.specs.declared.role.Role.{Role}
 use Rattle.smi_graph.specs.declared.role.Role.TheVariants.{Atom, Bond, Ring, Enter, Leave, Dot}
 use Rattle.smi_graph.specs.Order.{stays_open, is_enter, unclosed_at}
-use Rattle.smi_graph.specs.Reading.{unmatched, unmatched_with}
+use Rattle.smi_graph.specs.Firsts.{unmatched, unmatched_with}
 
 one_less : (n level : ℕ) → nat_le n (suc level) ≡ nat_le (n - 1) level
 one_less n level = grind (arith, nat_tests)
@@ -21,7 +21,7 @@ none n = grind (arith, nat_tests)
 
 pub stays_open_is : (level : ℕ) (ks : List Role) → stays_open level ks ≡ nat_le (unmatched ks) level
 stays_open_is level [] = all level
-stays_open_is level (Atom ∷ ks) = stays_open_is level ks
+stays_open_is level (Atom lower ∷ ks) = stays_open_is level ks
 stays_open_is level (Bond mark ∷ ks) = stays_open_is level ks
 stays_open_is level (Ring number ∷ ks) = stays_open_is level ks
 stays_open_is level (Dot ∷ ks) = stays_open_is level ks

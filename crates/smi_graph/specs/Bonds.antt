@@ -1,17 +1,16 @@
 -- Which atoms the tokens of a text join: OpenSMILES 1.0, sections 3.2 (bonds), 3.3 (branches) and 3.4 (rings).
 -- `before` is always the list of the tokens before a place, the latest first.
-use Rattle.std.specs.Prelude.{ℕ, zero, suc, ◌+◌, ◌-◌, Bool, true, not, ◌&&◌, List, [], ◌∷◌, ◌++◌, Option, Some, None, ◌==◌, nat_le, length, if◌then◌else◌}
-use Rattle.mc_mol.specs.declared.parts.Bond as bond
+use Rattle.std.specs.Prelude.{ℕ, zero, suc, ◌+◌, ◌-◌, Bool, true, not, ◌&&◌, List, [], ◌∷◌, ◌++◌, Option, Some, None, ◌==◌, nat_le, length, option_to_list, if◌then◌else◌}
 use Rattle.smi_lex.specs.declared.token.BondMark.{BondMark}
-use Rattle.smi_lex.specs.declared.token.BondMark.TheVariants.{Single, Double, Triple, Quadruple, Aromatic, Slash, Backslash}
-use Rattle.smi_graph.specs.declared.ring_end.RingEnd.{RingEnd}
+use Rattle.smi_graph.specs.declared.ring_table.RingEnd.{RingEnd}
 use Rattle.smi_graph.specs.declared.role.Role.{Role}
 use Rattle.smi_graph.specs.declared.role.Role.TheVariants.{Atom, Bond, Ring, Enter, Leave, Dot}
+use Rattle.smi_graph.specs.declared.text_bond.TextBond.{TextBond}
 
 -- how many atoms there are; so the number of the next atom, from 0
 abbrev pub atom_count : List Role → ℕ
 atom_count [] = 0
-atom_count (Atom ∷ before) = atom_count before + 1
+atom_count (Atom lower ∷ before) = atom_count before + 1
 atom_count (Bond mark ∷ before) = atom_count before
 atom_count (Ring number ∷ before) = atom_count before
 atom_count (Enter ∷ before) = atom_count before
@@ -22,7 +21,7 @@ atom_count (Dot ∷ before) = atom_count before
 abbrev pub openers : List Role → ℕ
 openers [] = 0
 openers (Enter ∷ ks) = openers ks + 1
-openers (Atom ∷ ks) = openers ks
+openers (Atom lower ∷ ks) = openers ks
 openers (Bond mark ∷ ks) = openers ks
 openers (Ring number ∷ ks) = openers ks
 openers (Leave ∷ ks) = openers ks
@@ -31,7 +30,7 @@ openers (Dot ∷ ks) = openers ks
 abbrev pub closers : List Role → ℕ
 closers [] = 0
 closers (Leave ∷ ks) = closers ks + 1
-closers (Atom ∷ ks) = closers ks
+closers (Atom lower ∷ ks) = closers ks
 closers (Bond mark ∷ ks) = closers ks
 closers (Ring number ∷ ks) = closers ks
 closers (Enter ∷ ks) = closers ks
@@ -47,7 +46,7 @@ never_falls (k ∷ later) = never_falls later && nat_le (closers (k ∷ later)) 
 -- never falls below its own.
 abbrev pub latest_open : List Role → List Role → Option ℕ
 latest_open later [] = None
-latest_open later (Atom ∷ before) = if never_falls later then Some (atom_count before) else latest_open (later ++ Atom ∷ []) before
+latest_open later (Atom lower ∷ before) = if never_falls later then Some (atom_count before) else latest_open (later ++ Atom lower ∷ []) before
 latest_open later (Bond mark ∷ before) = latest_open (later ++ Bond mark ∷ []) before
 latest_open later (Ring number ∷ before) = latest_open (later ++ Ring number ∷ []) before
 latest_open later (Enter ∷ before) = latest_open (later ++ Enter ∷ []) before
@@ -60,37 +59,15 @@ predecessor [] = None
 predecessor (Dot ∷ before) = None
 predecessor (k ∷ before) = latest_open [] (k ∷ before)
 
--- The order of a bond
-
--- the order that a bond symbol says; `:` says none, and is read as a single bond
-abbrev pub order_of_mark : BondMark → ℕ
-order_of_mark Single = 1
-order_of_mark Double = 2
-order_of_mark Triple = 3
-order_of_mark Quadruple = 4
-order_of_mark Aromatic = 1
-order_of_mark Slash = 1
-order_of_mark Backslash = 1
-
--- a bond without a symbol is single
-abbrev pub order_of : Option BondMark → ℕ
-order_of None = 1
-order_of (Some mark) = order_of_mark mark
-
 -- the bond symbol that stands directly before
 abbrev pub mark_of : List Role → Option BondMark
 mark_of [] = None
 mark_of (Bond mark ∷ before) = Some mark
-mark_of (Atom ∷ before) = None
+mark_of (Atom lower ∷ before) = None
 mark_of (Ring number ∷ before) = None
 mark_of (Enter ∷ before) = None
 mark_of (Leave ∷ before) = None
 mark_of (Dot ∷ before) = None
-
--- the first of two values that is there
-abbrev pub or_else : {A : Type 0} → Option A → Option A → Option A
-or_else None other = other
-or_else (Some x) other = Some x
 
 -- Ring numbers
 
@@ -98,7 +75,7 @@ or_else (Some x) other = Some x
 abbrev pub ring_count : ℕ → List Role → ℕ
 ring_count n [] = 0
 ring_count n (Ring number ∷ before) = if number == n then suc (ring_count n before) else ring_count n before
-ring_count n (Atom ∷ before) = ring_count n before
+ring_count n (Atom lower ∷ before) = ring_count n before
 ring_count n (Bond mark ∷ before) = ring_count n before
 ring_count n (Enter ∷ before) = ring_count n before
 ring_count n (Leave ∷ before) = ring_count n before
@@ -116,7 +93,7 @@ ring_end before = record { token = length before; atom = atom_count before - 1; 
 abbrev pub latest_end : ℕ → List Role → Option RingEnd
 latest_end n [] = None
 latest_end n (Ring number ∷ before) = if number == n then Some (ring_end before) else latest_end n before
-latest_end n (Atom ∷ before) = latest_end n before
+latest_end n (Atom lower ∷ before) = latest_end n before
 latest_end n (Bond mark ∷ before) = latest_end n before
 latest_end n (Enter ∷ before) = latest_end n before
 latest_end n (Leave ∷ before) = latest_end n before
@@ -128,29 +105,30 @@ open_end n before = if is_even (ring_count n before) then None else latest_end n
 
 -- The bonds
 
-abbrev pub bond_between : ℕ → ℕ → ℕ → bond.Bond
-bond_between p a order = record { first = record { 0 = p }; second = record { 0 = a }; order = order }
+abbrev pub text_bond : ℕ → ℕ → Option BondMark → Option BondMark → TextBond
+text_bond u v opening closing = record { first = record { 0 = u }; second = record { 0 = v }; opening = opening; closing = closing }
 
--- the bond from an atom's predecessor, where it has one
-abbrev pub chain_bond : Option ℕ → ℕ → Option BondMark → List bond.Bond
-chain_bond None a mark = []
-chain_bond (Some p) a mark = bond_between p a (order_of mark) ∷ []
+-- The bond from an atom's predecessor, where it has one: the symbol stands at the predecessor, as one at an opening
+-- number does.
+abbrev pub chain_bond : Option ℕ → ℕ → Option BondMark → Option TextBond
+chain_bond None a mark = None
+chain_bond (Some p) a mark = Some (text_bond p a mark None)
 
--- The bond that a closing number completes, from the atom of the opening number; either of them may have the symbol.
-abbrev pub ring_bond : Option RingEnd → RingEnd → List bond.Bond
-ring_bond None here = []
-ring_bond (Some other) here = bond_between other.atom here.atom (order_of (or_else other.mark here.mark)) ∷ []
+-- the bond that a closing number completes, from the atom of the opening number
+abbrev pub ring_bond : Option RingEnd → RingEnd → Option TextBond
+ring_bond None here = None
+ring_bond (Some other) here = Some (text_bond other.atom here.atom other.mark here.mark)
 
 -- the bond that a token completes, behind the tokens before it
-abbrev pub bonds_at : List Role → Role → List bond.Bond
-bonds_at before Atom = chain_bond (predecessor before) (atom_count before) (mark_of before)
-bonds_at before (Ring number) = ring_bond (open_end number before) (ring_end before)
-bonds_at before (Bond mark) = []
-bonds_at before Enter = []
-bonds_at before Leave = []
-bonds_at before Dot = []
+abbrev pub completed : List Role → Role → Option TextBond
+completed before (Atom lower) = chain_bond (predecessor before) (atom_count before) (mark_of before)
+completed before (Ring number) = ring_bond (open_end number before) (ring_end before)
+completed before (Bond mark) = None
+completed before Enter = None
+completed before Leave = None
+completed before Dot = None
 
 -- the bonds of the tokens so far, in the order of the tokens that complete them
-abbrev pub bonds_of : List Role → List bond.Bond
-bonds_of [] = []
-bonds_of (k ∷ before) = bonds_of before ++ bonds_at before k
+abbrev pub text_bonds : List Role → List TextBond
+text_bonds [] = []
+text_bonds (k ∷ before) = text_bonds before ++ option_to_list (completed before k)

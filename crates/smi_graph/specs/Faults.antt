@@ -3,7 +3,7 @@ use Rattle.std.specs.Prelude.{ℕ, [], Option, Some, None}
 use Rattle.mc_base.specs.declared.kind.Kind.{Kind}
 use Rattle.mc_base.specs.declared.refusal.Refusal.{Refusal}
 use Rattle.mc_base.specs.Shown.{IsFirst}
-use Rattle.smi_graph.specs.declared.fault.Fault.{Fault}
+use Rattle.smi_graph.specs.declared.first_faults.Fault.{Fault}
 use Rattle.smi_graph.specs.Skeletons.{IsNoBarrier}
 
 -- a refusal of this kind at this place

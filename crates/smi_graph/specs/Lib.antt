@@ -1,8 +1,12 @@
 pub mod Roles
 pub mod Order
 pub mod Bonds
+pub mod Links
 pub mod RingRules
-pub mod Reading
 pub mod Rules
+pub mod Branches
+pub mod RingTables
+pub mod Firsts
+pub mod Reading
 pub mod Skeletons
 pub mod Faults

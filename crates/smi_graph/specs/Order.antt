@@ -10,7 +10,7 @@ after_atom next = true
 
 abbrev pub after_start : Option Role → Bool
 after_start None = true
-after_start (Some Atom) = true
+after_start (Some (Atom lower)) = true
 after_start (Some (Bond mark)) = false
 after_start (Some (Ring number)) = false
 after_start (Some Enter) = false
@@ -19,7 +19,7 @@ after_start (Some Dot) = false
 
 abbrev pub after_bond : Option Role → Bool
 after_bond None = false
-after_bond (Some Atom) = true
+after_bond (Some (Atom lower)) = true
 after_bond (Some (Bond mark)) = false
 after_bond (Some (Ring number)) = true
 after_bond (Some Enter) = false
@@ -28,7 +28,7 @@ after_bond (Some Dot) = false
 
 abbrev pub after_enter : Option Role → Bool
 after_enter None = false
-after_enter (Some Atom) = true
+after_enter (Some (Atom lower)) = true
 after_enter (Some (Bond mark)) = true
 after_enter (Some (Ring number)) = false
 after_enter (Some Enter) = false
@@ -37,7 +37,7 @@ after_enter (Some Dot) = true
 
 abbrev pub after_leave : Option Role → Bool
 after_leave None = true
-after_leave (Some Atom) = true
+after_leave (Some (Atom lower)) = true
 after_leave (Some (Bond mark)) = true
 after_leave (Some (Ring number)) = false
 after_leave (Some Enter) = true
@@ -46,7 +46,7 @@ after_leave (Some Dot) = true
 
 abbrev pub after_dot : Option Role → Bool
 after_dot None = false
-after_dot (Some Atom) = true
+after_dot (Some (Atom lower)) = true
 after_dot (Some (Bond mark)) = false
 after_dot (Some (Ring number)) = false
 after_dot (Some Enter) = false
@@ -56,7 +56,7 @@ after_dot (Some Dot) = false
 -- whether a token, or the end, may stand behind the latest token; None before is the start
 abbrev pub may_follow : Option Role → Option Role → Bool
 may_follow None next = after_start next
-may_follow (Some Atom) next = after_atom next
+may_follow (Some (Atom lower)) next = after_atom next
 may_follow (Some (Ring number)) next = after_atom next
 may_follow (Some (Bond mark)) next = after_bond next
 may_follow (Some Enter) next = after_enter next
@@ -69,13 +69,13 @@ latest (k ∷ before) = Some k
 
 -- a ring number may stand behind it, also with a bond symbol between
 abbrev pub holds_ring : Option Role → Bool
-holds_ring (Some Atom) = true
+holds_ring (Some (Atom lower)) = true
 holds_ring (Some (Ring number)) = true
 holds_ring other = false
 
 abbrev pub is_bond : Role → Bool
 is_bond (Bond mark) = true
-is_bond Atom = false
+is_bond (Atom lower) = false
 is_bond (Ring number) = false
 is_bond Enter = false
 is_bond Leave = false
@@ -93,7 +93,7 @@ is_ring next = false
 -- the depth behind one more token; None behind a `)` that closes nothing
 abbrev pub depth_behind : Option ℕ → Role → Option ℕ
 depth_behind None k = None
-depth_behind (Some d) Atom = Some d
+depth_behind (Some d) (Atom lower) = Some d
 depth_behind (Some d) (Bond mark) = Some d
 depth_behind (Some d) (Ring number) = Some d
 depth_behind (Some d) Dot = Some d
@@ -125,7 +125,7 @@ misplaced_at ks i = is_misplaced (tokens_before ks i) (slice_get ks i)
 -- no `)` among these tokens closes a branch that was open before them and `level` more
 abbrev pub stays_open : ℕ → List Role → Bool
 stays_open level [] = true
-stays_open level (Atom ∷ ks) = stays_open level ks
+stays_open level (Atom lower ∷ ks) = stays_open level ks
 stays_open level (Bond mark ∷ ks) = stays_open level ks
 stays_open level (Ring number ∷ ks) = stays_open level ks
 stays_open level (Dot ∷ ks) = stays_open level ks

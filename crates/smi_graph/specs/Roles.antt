@@ -7,11 +7,12 @@ use Rattle.smi_lex.specs.declared.token.TokenKind.{TokenKind}
 use Rattle.smi_lex.specs.declared.token.TokenKind.TheVariants as kind
 use Rattle.smi_graph.specs.declared.role.Role.{Role}
 use Rattle.smi_graph.specs.declared.role.Role.TheVariants.{Atom, Bond, Ring, Enter, Leave, Dot}
-use Rattle.smi_graph.specs.declared.skeleton.SkelAtom.{SkelAtom}
+use Rattle.smi_graph.specs.declared.skel_atom.SkelAtom.{SkelAtom}
 
+-- an atom says whether its symbol is in lower case
 abbrev pub role_of : TokenKind → Role
-role_of (kind.Bare element lower) = Atom
-role_of (kind.Bracket element lower isotope chiral hydrogens charge class) = Atom
+role_of (kind.Bare element lower) = Atom lower
+role_of (kind.Bracket element lower isotope chiral hydrogens charge class) = Atom lower
 role_of (kind.Bond mark) = Bond mark
 role_of (kind.Ring number) = Ring number
 role_of kind.Enter = Enter

@@ -11,19 +11,25 @@ use Rattle.smi_lex.specs.declared.token.TokenKind.{TokenKind}
 use Rattle.smi_lex.specs.declared.token.TokenKind.TheVariants as kind
 use Rattle.smi_lex.specs.Reading.{IsCause}
 use Rattle.smi_lex.specs.Tokens.{tokens, unread}
-use Rattle.smi_graph.specs.declared.ring_end.RingEnd.{RingEnd}
+use Rattle.smi_graph.specs.declared.ring_table.RingEnd.{RingEnd}
 use Rattle.smi_graph.specs.declared.role.Role.{Role}
-use Rattle.smi_graph.specs.declared.skeleton.SkelAtom.{SkelAtom}
+use Rattle.smi_graph.specs.declared.skel_atom.SkelAtom.{SkelAtom}
 use Rattle.smi_graph.specs.Roles.{roles, atoms_of}
 use Rattle.smi_graph.specs.Order.{misplaced_at, unclosed_at}
-use Rattle.smi_graph.specs.Bonds.{open_end, bonds_of}
+use Rattle.smi_graph.specs.declared.text_bond.TextBond.{TextBond}
+use Rattle.smi_graph.specs.Bonds.{open_end, text_bonds}
+use Rattle.smi_graph.specs.Links.{bond_of}
 use Rattle.smi_graph.specs.RingRules.{clash_at, pair_again_at}
 
 abbrev pub roles_in : List ℕ → List Role
 roles_in text = roles (tokens text)
 
+abbrev pub text_bonds_in : List ℕ → List TextBond
+text_bonds_in text = text_bonds (reverse (roles_in text))
+
+-- the bonds with the orders that their symbols say
 abbrev pub bonds_in : List ℕ → List bond.Bond
-bonds_in text = bonds_of (reverse (roles_in text))
+bonds_in text = map bond_of (text_bonds_in text)
 
 abbrev pub atoms_in : List ℕ → List SkelAtom
 atoms_in text = atoms_of (tokens text)
@@ -67,14 +73,14 @@ ring_limit = 99
 abbrev pub charge_limit : ℕ
 charge_limit = 15
 
-abbrev pub is_heavy : SkelAtom → Bool
-is_heavy atom = nat_lt limit atom.isotope
+abbrev pub has_high_isotope : SkelAtom → Bool
+has_high_isotope atom = nat_lt limit atom.isotope
 
-abbrev pub is_high_class : SkelAtom → Bool
-is_high_class atom = nat_lt limit atom.class
+abbrev pub has_high_class : SkelAtom → Bool
+has_high_class atom = nat_lt limit atom.class
 
-abbrev pub is_overcharged : SkelAtom → Bool
-is_overcharged atom = nat_lt charge_limit (nat_abs atom.charge)
+abbrev pub has_high_charge : SkelAtom → Bool
+has_high_charge atom = nat_lt charge_limit (nat_abs atom.charge)
 
 abbrev pub fails : (SkelAtom → Bool) → Option SkelAtom → Bool
 fails p None = false
@@ -108,9 +114,9 @@ abbrev pub BeyondAt : List SkelAtom → List bond.Bond → Kind → ℕ → Type
 BeyondAt atoms bonds LimitAtoms place = IsAbove (length atoms) limit place
 BeyondAt atoms bonds LimitBonds place = IsAbove (length bonds) limit place
 BeyondAt atoms bonds LimitRings place = IsAbove (independent_rings bonds (length atoms)) ring_limit place
-BeyondAt atoms bonds LimitIsotope place = AtomFails atoms is_heavy place
-BeyondAt atoms bonds LimitClass place = AtomFails atoms is_high_class place
-BeyondAt atoms bonds LimitCharge place = AtomFails atoms is_overcharged place
+BeyondAt atoms bonds LimitIsotope place = AtomFails atoms has_high_isotope place
+BeyondAt atoms bonds LimitClass place = AtomFails atoms has_high_class place
+BeyondAt atoms bonds LimitCharge place = AtomFails atoms has_high_charge place
 BeyondAt atoms bonds _ place = ⊥
 
 -- a kind stands at the byte of a token, or behind the text

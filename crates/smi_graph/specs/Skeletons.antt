@@ -1,5 +1,5 @@
 -- What a text is read as.
-use Rattle.std.specs.Prelude.{◌≡◌, ℕ, ◌≤◌, List, false, length, All, AllPairs}
+use Rattle.std.specs.Prelude.{◌≡◌, ℕ, ◌≤◌, List, false, length, map, All, AllPairs}
 use Rattle.mc_base.specs.declared.ids.AtomId.{AtomId}
 use Rattle.mc_base.specs.declared.kind.Kind.{Kind}
 use Rattle.mc_base.specs.declared.refusal.Stop.{Stop}
@@ -8,28 +8,39 @@ use Rattle.mc_base.specs.Shown.{IsFirst}
 use Rattle.mc_mol.specs.declared.parts.Bond as bond
 use Rattle.mc_mol.specs.Molecule.{joins}
 use Rattle.mc_mol.specs.WellFormed.{IsBond}
+use Rattle.smi_graph.specs.declared.skel_atom.SkelAtom.{SkelAtom}
 use Rattle.smi_graph.specs.declared.skeleton.Link.TheVariants.{Order}
 use Rattle.smi_graph.specs.declared.skeleton.SkelBond.{SkelBond}
-use Rattle.smi_graph.specs.declared.skeleton.Skeleton.{Skeleton}
-use Rattle.smi_graph.specs.Rules.{atoms_in, bonds_in, BreaksAt}
+use Rattle.smi_graph.specs.declared.text_bond.TextBond.{TextBond}
+use Rattle.smi_graph.specs.Links.{bond_of, order_of, symbol}
+use Rattle.smi_graph.specs.Rules.{atoms_in, text_bonds_in, BreaksAt}
+
+-- the atoms of a text, in its order, and its bonds, in the order of the tokens that complete them
+pub record TextGraph : Type 0 where
+  pub atoms : List SkelAtom
+  pub bonds : List TextBond
 
 -- bonds between so many atoms, no pair twice
 pub record AreBonds (atoms : ℕ) (bonds : List bond.Bond) : Type 0 where
   pub each : All (IsBond atoms) bonds
   pub once : AllPairs (λ (b c : bond.Bond). joins b c.first.0 c.second.0 ≡ false) bonds
 
+-- at most 999 atoms and bonds; bonds between these atoms, no pair twice
+pub record IsTextGraph (graph : TextGraph) : Type 0 where
+  pub few_atoms : length graph.atoms ≤ 999
+  pub few_bonds : length graph.bonds ≤ 999
+  pub sound : AreBonds (length graph.atoms) (map bond_of graph.bonds)
+
 -- a bond of a skeleton: no double bond is placed today, so its order is known
-abbrev pub linked : bond.Bond → SkelBond
-linked b = record { first = b.first; second = b.second; link = Order b.order }
+abbrev pub linked : TextBond → SkelBond
+linked b = record { first = b.first; second = b.second; link = Order (order_of (symbol b)) }
 
 -- the skeleton of a text of which no kind stands: its atoms and its bonds
-pub record IsSkeleton (text : List ℕ) (skeleton : Skeleton) : Type 0 where
+pub record IsSkeleton (text : List ℕ) (graph : TextGraph) : Type 0 where
   pub accepted : (kind : Kind) (place : ℕ) → BreaksAt text kind place → ⊥
-  pub atoms : skeleton.atoms.items ≡ atoms_in text
-  pub bonds : skeleton.bonds.items ≡ bonds_in text
-  pub few_atoms : length skeleton.atoms.items ≤ 999
-  pub few_bonds : length skeleton.bonds.items ≤ 999
-  pub sound : AreBonds (length skeleton.atoms.items) skeleton.bonds.items
+  pub atoms : graph.atoms ≡ atoms_in text
+  pub bonds : graph.bonds ≡ text_bonds_in text
+  pub limits : IsTextGraph graph
 
 -- nothing is a barrier: no lower-case atom is read
 abbrev pub IsNoBarrier : List AtomId → ℕ → Type 0

@@ -1,21 +1,27 @@
 //! The skeleton of a SMILES text: which tokens may stand where, and which atoms its bonds join.
 #![tactic(auto)]
 
-mod builder;
-mod fault;
+mod branches;
+mod first_faults;
+mod joined;
 mod limits;
-mod order;
 mod read;
 mod reader;
-mod ring_end;
+mod ring_table;
 mod role;
+mod skel_atom;
 mod skeleton;
 mod structure;
 #[cfg(test)]
 mod tests;
+mod text_bond;
+mod token_order;
 mod tokens;
+mod unclosed;
 
 pub use read::read_skeleton;
-pub use ring_end::RingEnd;
+pub use ring_table::RingEnd;
 pub use role::Role;
-pub use skeleton::{Link, SkelAtom, SkelBond, Skeleton};
+pub use skel_atom::SkelAtom;
+pub use skeleton::{Link, SkelBond, Skeleton};
+pub use text_bond::{TextBond, bonds_with_orders};

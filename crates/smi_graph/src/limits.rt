@@ -3,15 +3,17 @@ ghost use Rattle.std.specs.Prelude.{◌≡◌, map, ◌<◌, ◌≤◌, ◌^◌,
 ghost use Rattle.mc_base.specs.declared.span.Span.{Span as Part};
 ghost use Rattle.mc_mol.specs.Parts.{independent_rings};
 ghost use Rattle.smi_graph.specs.Faults.{IsFirstFault};
-ghost use Rattle.smi_graph.specs.Reading.{IsFirstOf, held_atom, is_light};
+ghost use Rattle.smi_graph.specs.Firsts.{IsFirstOf};
+ghost use Rattle.smi_graph.specs.Links.{bond_of};
+ghost use Rattle.smi_graph.specs.Reading.{held_atom, is_within_limits};
 ghost use Rattle.smi_graph.specs.Roles.{atom_of};
-ghost use Rattle.smi_graph.specs.Rules.{fails, is_heavy, is_high_class, is_overcharged, ring_limit, BeyondAt};
+ghost use Rattle.smi_graph.specs.Rules.{fails, has_high_isotope, has_high_class, has_high_charge, ring_limit, BeyondAt};
 ghost use Rattle.smi_graph.specs.Skeletons.{AreBonds};
 
-use crate::SkelAtom;
-use crate::fault::Fault;
+use crate::first_faults::Fault;
+use crate::{SkelAtom, TextBond, bonds_with_orders};
 use mc_base::Kind;
-use mc_mol::{Bond, independent_rings};
+use mc_mol::independent_rings;
 use smi_lex::TokenKind;
 use std::alloc::{AllocError, Global};
 
@@ -25,22 +27,22 @@ const RING_LIMIT: u32 = 99;
 const CHARGE_LIMIT: u8 = 15;
 
 /// The first atom whose isotope is above the limit.
-fn first_heavy(atoms: &[SkelAtom]) -> Option<usize>
-    ensures { IsFirstOf (λ k. fails is_heavy (slice_get atoms.now k)) (length atoms.now) result }
+fn first_high_isotope(atoms: &[SkelAtom]) -> Option<usize>
+    ensures { IsFirstOf (λ k. fails has_high_isotope (slice_get atoms.now k)) (length atoms.now) result }
 {
     atoms.iter().position(|atom| atom.isotope as usize > LIMIT)
 }
 
 /// The first atom whose class is above the limit.
 fn first_high_class(atoms: &[SkelAtom]) -> Option<usize>
-    ensures { IsFirstOf (λ k. fails is_high_class (slice_get atoms.now k)) (length atoms.now) result }
+    ensures { IsFirstOf (λ k. fails has_high_class (slice_get atoms.now k)) (length atoms.now) result }
 {
     atoms.iter().position(|atom| atom.class as usize > LIMIT)
 }
 
 /// The first atom whose charge is beyond the limit.
-fn first_overcharged(atoms: &[SkelAtom]) -> Option<usize>
-    ensures { IsFirstOf (λ k. fails is_overcharged (slice_get atoms.now k)) (length atoms.now) result }
+fn first_high_charge(atoms: &[SkelAtom]) -> Option<usize>
+    ensures { IsFirstOf (λ k. fails has_high_charge (slice_get atoms.now k)) (length atoms.now) result }
 {
     atoms
         .iter()
@@ -50,7 +52,7 @@ fn first_overcharged(atoms: &[SkelAtom]) -> Option<usize>
 /// Whether the values of the atom that a token is are within their limits.
 #[inline(always)]
 pub fn is_within(kind: TokenKind) -> bool
-    ensures { (span : Part) → result ≡ list_all is_light (map held_atom (atom_of kind span)) }
+    ensures { (span : Part) → result ≡ list_all is_within_limits (map held_atom (atom_of kind span)) }
 {
     match kind {
         TokenKind::Bracket {
@@ -71,18 +73,23 @@ pub fn is_within(kind: TokenKind) -> bool
 }
 
 /// The number of independent rings where it is above the limit.
-fn rings_above(alloc: Global, atoms: &[SkelAtom], bonds: &[Bond]) -> Result<Option<u32>, AllocError>
-    requires sound { AreBonds (length atoms.now) bonds.now }
+fn rings_above(
+    alloc: Global,
+    atoms: &[SkelAtom],
+    bonds: &[TextBond],
+) -> Result<Option<u32>, AllocError>
+    requires sound { AreBonds (length atoms.now) (map bond_of bonds.now) }
     requires few_atoms { length atoms.now ≤ 999 }
     requires few_bonds { length bonds.now ≤ 999 }
-    ensures above { IfOk result (λ found. IfSome found (λ rings. (rings ≡ independent_rings bonds.now (length atoms.now)) × (ring_limit < rings))) }
-    ensures few { IfOk result (λ found. IfNone found (independent_rings bonds.now (length atoms.now) ≤ ring_limit)) }
+    ensures above { IfOk result (λ found. IfSome found (λ rings. (rings ≡ independent_rings (map bond_of bonds.now) (length atoms.now)) × (ring_limit < rings))) }
+    ensures few { IfOk result (λ found. IfNone found (independent_rings (map bond_of bonds.now) (length atoms.now) ≤ ring_limit)) }
 {
     // no more rings than bonds
     if bonds.len() <= RING_LIMIT as usize {
         return Ok(None);
     }
-    let rings = independent_rings(alloc, bonds, atoms.len() as u32)?;
+    let bonds = bonds_with_orders(alloc, bonds)?;
+    let rings = independent_rings(alloc, &bonds, atoms.len() as u32)?;
     if rings > RING_LIMIT {
         Ok(Some(rings))
     } else {
@@ -95,14 +102,14 @@ fn rings_above(alloc: Global, atoms: &[SkelAtom], bonds: &[Bond]) -> Result<Opti
 pub fn limit_fault(
     alloc: Global,
     atoms: &[SkelAtom],
-    bonds: &[Bond],
+    bonds: &[TextBond],
     are_within: bool,
 ) -> Result<Option<Fault>, AllocError>
-    requires sound { AreBonds (length atoms.now) bonds.now }
+    requires sound { AreBonds (length atoms.now) (map bond_of bonds.now) }
     requires few_atoms { length atoms.now < 2 ^ 32 - 1 }
     requires few_bonds { length bonds.now < 2 ^ 32 - 1 }
-    requires within { are_within ≡ list_all is_light atoms.now }
-    ensures { IfOk result (IsFirstFault (BeyondAt atoms.now bonds.now)) }
+    requires within { are_within ≡ list_all is_within_limits atoms.now }
+    ensures { IfOk result (IsFirstFault (BeyondAt atoms.now (map bond_of bonds.now))) }
 {
     if atoms.len() > LIMIT {
         return Ok(Some(Fault {
@@ -125,7 +132,7 @@ pub fn limit_fault(
     if are_within {
         return Ok(None);
     }
-    if let Some(k) = first_heavy(atoms) {
+    if let Some(k) = first_high_isotope(atoms) {
         return Ok(Some(Fault {
             kind: Kind::LimitIsotope,
             place: k as u32 + 1,
@@ -137,7 +144,7 @@ pub fn limit_fault(
             place: k as u32 + 1,
         }));
     }
-    if let Some(k) = first_overcharged(atoms) {
+    if let Some(k) = first_high_charge(atoms) {
         return Ok(Some(Fault {
             kind: Kind::LimitCharge,
             place: k as u32 + 1,

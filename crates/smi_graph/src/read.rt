@@ -29,7 +29,7 @@ pub fn read_skeleton(alloc: Global, text: &[u8]) -> Result<Skeleton, Stop>
         alloc,
         &reader.atoms,
         reader.structure.bonds(),
-        reader.all_light,
+        reader.all_within_limits,
     )? {
         return Err(Stop::Refused(Refusal::at(alloc, fault.kind, fault.place)));
     }

@@ -4,7 +4,7 @@ ghost use Rattle.smi_graph.specs.Reading.{HasRead, IsBounded};
 ghost use Rattle.smi_graph.specs.Skeletons.{IsBroken};
 
 use crate::limits::is_within;
-use crate::skeleton::push_atom;
+use crate::skel_atom::push_atom;
 use crate::structure::Structure;
 use crate::tokens::is_built_kind;
 use crate::{Role, SkelAtom};
@@ -25,7 +25,7 @@ pub struct Reader {
     pub atoms: Vec<SkelAtom>,
     pub structure: Structure,
     /// whether the values of all atoms are within their limits
-    pub all_light: bool,
+    pub all_within_limits: bool,
     /// whether all of them are read today
     pub all_built: bool,
 }
@@ -40,14 +40,14 @@ impl Reader {
     fn with_room(alloc: Global, bytes: usize) -> Result<Reader, AllocError>
         ensures has { IfOk result (λ reader. (ts : List Token) → HasRead ts reader) }
         ensures bounded { IfOk result (λ reader. IsBounded reader.structure) }
-        ensures tokens { IfOk result (λ reader. reader.structure.builder.tokens ≡ 0) }
+        ensures tokens { IfOk result (λ reader. reader.structure.tokens ≡ 0) }
     {
         // Most texts have fewer atoms and bonds; one that has more takes more room as it is read.
         let room = bytes - bytes / 4;
         Ok(Reader {
             atoms: Vec::with_capacity(alloc, room)?,
             structure: Structure::with_room(alloc, room)?,
-            all_light: true,
+            all_within_limits: true,
             all_built: true,
         })
     }
@@ -56,13 +56,13 @@ impl Reader {
     #[inline(always)]
     fn read_as(&mut self, token: Token, role: Role) -> Result<(), AllocError>
         requires role { role ≡ role_of token.kind }
-        requires few { self.old.structure.builder.tokens < 2 ^ 32 - 1 }
+        requires few { self.old.structure.tokens < 2 ^ 32 - 1 }
         requires bounded { IsBounded self.old.structure }
-        ensures has { OnOk result ((ts later : List Token) → drop self.old.structure.builder.tokens ts ≡ token ∷ later → HasRead ts self.old → HasRead ts self.new) }
+        ensures has { OnOk result ((ts later : List Token) → drop self.old.structure.tokens ts ≡ token ∷ later → HasRead ts self.old → HasRead ts self.new) }
         ensures bounded { OnOk result (IsBounded self.new.structure) }
-        ensures tokens { OnOk result (self.new.structure.builder.tokens ≡ self.old.structure.builder.tokens + 1) }
+        ensures tokens { OnOk result (self.new.structure.tokens ≡ self.old.structure.tokens + 1) }
     {
-        self.all_light = both(self.all_light, is_within(token.kind));
+        self.all_within_limits = both(self.all_within_limits, is_within(token.kind));
         self.all_built = both(self.all_built, is_built_kind(token.kind));
         push_atom(&mut self.atoms, token.kind, token.span)?;
         self.structure.read(role)?;
@@ -71,15 +71,15 @@ impl Reader {
 
     /// One more token. Its kind is told apart once, so that each kind has its own way through.
     fn read(&mut self, token: Token) -> Result<(), AllocError>
-        requires few { self.old.structure.builder.tokens < 2 ^ 32 - 1 }
+        requires few { self.old.structure.tokens < 2 ^ 32 - 1 }
         requires bounded { IsBounded self.old.structure }
-        ensures has { OnOk result ((ts later : List Token) → drop self.old.structure.builder.tokens ts ≡ token ∷ later → HasRead ts self.old → HasRead ts self.new) }
+        ensures has { OnOk result ((ts later : List Token) → drop self.old.structure.tokens ts ≡ token ∷ later → HasRead ts self.old → HasRead ts self.new) }
         ensures bounded { OnOk result (IsBounded self.new.structure) }
-        ensures tokens { OnOk result (self.new.structure.builder.tokens ≡ self.old.structure.builder.tokens + 1) }
+        ensures tokens { OnOk result (self.new.structure.tokens ≡ self.old.structure.tokens + 1) }
     {
         match token.kind {
-            TokenKind::Bare { .. } => self.read_as(token, Role::Atom),
-            TokenKind::Bracket { .. } => self.read_as(token, Role::Atom),
+            TokenKind::Bare { lower, .. } => self.read_as(token, Role::Atom { lower }),
+            TokenKind::Bracket { lower, .. } => self.read_as(token, Role::Atom { lower }),
             TokenKind::Bond(mark) => self.read_as(token, Role::Bond(mark)),
             TokenKind::Ring(number) => self.read_as(token, Role::Ring(number)),
             TokenKind::Enter => self.read_as(token, Role::Enter),
@@ -93,9 +93,9 @@ impl Reader {
 pub fn read_tokens(alloc: Global, text: &[u8]) -> Result<Reader, Stop>
     requires { length text.now < 2 ^ 32 - 1 }
     ensures has { IfOk result (HasRead (tokens text.now)) }
-    ensures all { IfOk result (λ reader. reader.structure.builder.tokens ≡ length (tokens text.now)) }
+    ensures all { IfOk result (λ reader. reader.structure.tokens ≡ length (tokens text.now)) }
     ensures whole { IfOk result (λ reader. unread text.now ≡ []) }
-    ensures few { IfOk result (λ reader. reader.structure.builder.tokens ≤ length text.now) }
+    ensures few { IfOk result (λ reader. reader.structure.tokens ≤ length text.now) }
     ensures err { IfErr result (IsBroken text.now) }
 {
     let mut lexer = Lexer::new(text);

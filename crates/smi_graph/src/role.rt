@@ -6,7 +6,8 @@ use smi_lex::{BondMark, TokenKind};
 /// What a token does in the structure of a text.
 #[derive(Clone, Copy, Debug, PartialEq, Eq)]
 pub enum Role {
-    Atom,
+    /// `lower` says whether the symbol is in lower case
+    Atom { lower: bool },
     Bond(BondMark),
     Ring(u8),
     Enter,
@@ -18,8 +19,8 @@ pub fn role_of(kind: TokenKind) -> Role
     ensures { result ≡ role_of kind }
 {
     match kind {
-        TokenKind::Bare { .. } => Role::Atom,
-        TokenKind::Bracket { .. } => Role::Atom,
+        TokenKind::Bare { lower, .. } => Role::Atom { lower },
+        TokenKind::Bracket { lower, .. } => Role::Atom { lower },
         TokenKind::Bond(mark) => Role::Bond(mark),
         TokenKind::Ring(number) => Role::Ring(number),
         TokenKind::Enter => Role::Enter,

@@ -1,122 +1,227 @@
-ghost use Rattle.std.specs.Prelude.{◌≡◌, ℕ, Bool, ◌+◌, ◌<◌, length, List, Some};
+ghost use Rattle.std.specs.Prelude.{◌≡◌, ◌+◌, ◌≤◌, ◌∷◌, ◌++◌, List, OnOk, option_to_list};
 ghost use Rattle.smi_graph.specs.declared.role.Role.{Role};
-ghost use Rattle.smi_graph.specs.RingRules.{is_clash, is_pair_again};
-ghost use Rattle.smi_graph.specs.Reading.{IsFirstOf, IsFirstEnd, Reads, lesser};
+ghost use Rattle.smi_graph.specs.Bonds.{atom_count};
+ghost use Rattle.smi_graph.specs.Reading.{mark_in};
 
-use crate::builder::Builder;
-use crate::fault::Fault;
-use crate::order::{Order, first_unclosed};
+use crate::branches::Branches;
+use crate::first_faults::{Fault, FirstFaults};
+use crate::joined::pairs_again;
+use crate::ring_table::RingTable;
+use crate::text_bond::{chain_bond, ring_bond, some_clashes};
+use crate::token_order::{TokenOrder, may_end};
 use crate::tokens::roles_of;
-use crate::{RingEnd, Role};
+use crate::unclosed::first_unclosed;
+use crate::{RingEnd, Role, TextBond};
 use mc_base::Kind;
-use mc_mol::Bond;
+use smi_lex::BondMark;
 use std::alloc::{AllocError, Global};
 
-/// The first closing number whose symbol clashes, with one more token behind.
+fn mark_in(latest: Option<Role>) -> Option<BondMark>
+    ensures { result ≡ mark_in latest }
+{
+    match latest {
+        Some(Role::Bond(mark)) => Some(mark),
+        None | Some(Role::Atom { .. } | Role::Ring(_) | Role::Enter | Role::Leave | Role::Dot) =>
+            None,
+    }
+}
+
+/// How many atoms a token is.
 #[inline(always)]
-fn clash_or_here(first: Option<u32>, builder: &Builder, role: Role) -> Option<u32>
-    ensures { (p : ℕ → Bool) (before : List Role) → Reads builder.now before → IsFirstOf p builder.now.tokens first → p builder.now.tokens ≡ is_clash before (Some role) → IsFirstOf p (builder.now.tokens + 1) result }
+fn atoms_of(role: Role) -> u32
+    ensures count { (before : List Role) → atom_count (role ∷ before) ≡ atom_count before + result }
+    ensures one { result ≤ 1 }
 {
-    if first.is_none() && builder.clashes(role) {
-        Some(builder.token_count())
-    } else {
-        first
+    match role {
+        Role::Atom { .. } => 1,
+        Role::Bond(_) | Role::Ring(_) | Role::Enter | Role::Leave | Role::Dot => 0,
     }
 }
 
-/// The first closing number that joins what is joined already, with one more token behind. Nothing is looked up
-/// behind the first; up to it an atom closes each of the hundred numbers once at most.
 #[inline(always)]
-fn pair_or_here(first: Option<u32>, builder: &Builder, role: Role) -> Option<u32>
-    ensures { (p : ℕ → Bool) (before : List Role) → Reads builder.now before → IsFirstOf p builder.now.tokens first → p builder.now.tokens ≡ is_pair_again before (Some role) → IsFirstOf p (builder.now.tokens + 1) result }
+fn push_some(bonds: &mut Vec<TextBond>, bond: Option<TextBond>) -> Result<(), AllocError>
+    ensures { OnOk result (bonds.new.items ≡ bonds.old.items ++ option_to_list bond) }
 {
-    if first.is_none() && builder.pairs_again(role) {
-        Some(builder.token_count())
-    } else {
-        first
+    match bond {
+        Some(bond) => bonds.push(bond)?,
+        None => {}
     }
+    Ok(())
 }
 
-/// The first of these tokens and the end of one more number.
-fn lesser(first: Option<u32>, end: Option<RingEnd>) -> Option<u32>
-    ensures { result ≡ lesser first end }
-{
-    match end {
-        None => first,
-        Some(end) => match first {
-            None => Some(end.token),
-            Some(first) => Some(if end.token < first { end.token } else { first }),
-        },
-    }
-}
-
-/// The first token whose ring number is open.
-fn first_open(ends: &[Option<RingEnd>]) -> Option<u32>
-    ensures { IsFirstEnd ends.now (length ends.now) result }
-{
-    let mut first = None;
-    for end in ends {
-        first = lesser(first, *end);
-    }
-    first
-}
-
-/// What the tokens so far do: the bonds that they complete, and the first of them that are wrong by each rule.
+/// What the tokens so far do: the bonds that they complete, what is open behind them, and the first of them that are
+/// wrong by each rule.
 #[derive(Drop)]
 pub struct Structure {
-    builder: Builder,
-    order: Order,
-    /// the first closing number whose symbol clashes
-    clash: Option<u32>,
-    /// the first closing number that joins what is joined already
-    pair: Option<u32>,
+    bonds: Vec<TextBond>,
+    tokens: u32,
+    /// how many atoms there are
+    count: u32,
+    /// the latest token
+    latest: Option<Role>,
+    branches: Branches,
+    rings: RingTable,
+    /// which token may stand next, where none is misplaced
+    order: TokenOrder,
+    faults: FirstFaults,
 }
 
 impl Structure {
-    ghost use Rattle.std.specs.Prelude.{◌≡◌, ◌+◌, ◌-◌, ◌<◌, ◌^◌, ℕ, List, IfOk, IfSome, OnOk, length, reverse, get_or};
+    ghost use Rattle.std.specs.Prelude.{◌≡◌, ◌+◌, ◌-◌, ◌<◌, ◌^◌, ℕ, List, [], ◌∷◌, ◌≤◌, ◌||◌, IfOk, IfSome, OnOk, OnErr, length, reverse, get_or, Some, None, true, false};
     ghost use Rattle.smi_graph.specs.declared.role.Role.{Role};
     ghost use Rattle.smi_graph.specs.Faults.{IsFirstFault};
-    ghost use Rattle.smi_graph.specs.Order.{misplaced_at, unclosed_at};
-    ghost use Rattle.smi_graph.specs.Reading.{Follows, IsBounded, IsFirstOf, IsFirstOpen};
+    ghost use Rattle.smi_graph.specs.Order.{misplaced_at, unclosed_at, tokens_before};
+    ghost use Rattle.smi_graph.specs.Bonds.{ring_end, completed};
+    ghost use Rattle.smi_graph.specs.RingRules.{is_clash, is_pair_again};
+    ghost use Rattle.smi_graph.specs.RingTables.{IsFirstOpen};
+    ghost use Rattle.smi_graph.specs.Firsts.{IsFirstOf, AreFirst};
+    ghost use Rattle.smi_graph.specs.Reading.{Follows, IsBehind, IsBounded, Reads};
     ghost use Rattle.smi_graph.specs.Rules.{WrongAt, roles_in};
 
     /// Of no tokens, with room for so many bonds.
     pub fn with_room(alloc: Global, bonds: usize) -> Result<Structure, AllocError>
         ensures follows { IfOk result (λ structure. (ks : List Role) → Follows ks structure) }
         ensures bounded { IfOk result IsBounded }
-        ensures tokens { IfOk result (λ structure. structure.builder.tokens ≡ 0) }
+        ensures tokens { IfOk result (λ structure. structure.tokens ≡ 0) }
     {
         Ok(Structure {
-            builder: Builder::with_room(alloc, bonds)?,
-            order: Order::start(),
-            clash: None,
-            pair: None,
+            bonds: Vec::with_capacity(alloc, bonds)?,
+            tokens: 0,
+            count: 0,
+            latest: None,
+            branches: Branches::none(alloc),
+            rings: RingTable::none(alloc),
+            order: TokenOrder::start(),
+            faults: FirstFaults::none(),
         })
+    }
+
+    /// A ring number that stands here.
+    #[inline(always)]
+    fn here(&self) -> RingEnd
+        ensures { (before : List Role) → Reads self.now before → result ≡ ring_end before }
+    {
+        RingEnd {
+            token: self.tokens,
+            atom: self.count.saturating_sub(1),
+            mark: mark_in(self.latest),
+        }
+    }
+
+    /// The bond that a token completes which stands here.
+    #[inline(always)]
+    fn completed(&self, role: Role) -> Option<TextBond>
+        ensures { (before : List Role) → Reads self.now before → result ≡ completed before role }
+    {
+        match role {
+            Role::Atom { .. } => chain_bond(
+                self.branches.predecessor(self.latest),
+                self.count,
+                mark_in(self.latest),
+            ),
+            Role::Ring(number) => ring_bond(self.rings.open_end(number), self.here()),
+            Role::Bond(_) | Role::Enter | Role::Leave | Role::Dot => None,
+        }
+    }
+
+    /// Whether a token of this place is the first closing number whose symbol says another order than that of the
+    /// opening number.
+    #[inline(always)]
+    fn clashes_first(&self, role: Role, bond: Option<TextBond>) -> bool
+        ensures { (before : List Role) → self.now.faults.clash ≡ None → bond ≡ completed before role → result ≡ is_clash before (Some role) }
+    {
+        match role {
+            Role::Ring(_) => self.faults.clash.is_none() && some_clashes(bond),
+            Role::Atom { .. } | Role::Bond(_) | Role::Enter | Role::Leave | Role::Dot => false,
+        }
+    }
+
+    /// Whether a token of this place is the first closing number between atoms that are one, or are joined already.
+    /// Nothing is looked up behind the first; up to it an atom closes each of the hundred numbers once at most.
+    #[inline(always)]
+    fn pairs_first(&self, role: Role, bond: Option<TextBond>) -> bool
+        ensures { (before : List Role) → self.now.faults.pair ≡ None → Reads self.now before → bond ≡ completed before role → result ≡ is_pair_again before (Some role) }
+    {
+        match role {
+            Role::Ring(_) => self.faults.pair.is_none() && pairs_again(&self.bonds, bond),
+            Role::Atom { .. } | Role::Bond(_) | Role::Enter | Role::Leave | Role::Dot => false,
+        }
+    }
+
+    /// Looks at a token that stands here, and completes this bond: whether it is wrong.
+    #[inline(always)]
+    fn look(&mut self, role: Role, bond: Option<TextBond>)
+        requires few { self.old.tokens < 2 ^ 32 - 1 }
+        requires bounded { IsBounded self.old }
+        ensures order { (ks : List Role) (d : Role) → self.old.tokens < length ks → get_or ks self.old.tokens d ≡ role → bond ≡ completed (tokens_before ks self.old.tokens) role → Follows ks self.old → self.new.faults.misplaced ≡ None → IsBehind self.new.order (role ∷ tokens_before ks self.old.tokens) }
+        ensures faults { (ks : List Role) (d : Role) → self.old.tokens < length ks → get_or ks self.old.tokens d ≡ role → bond ≡ completed (tokens_before ks self.old.tokens) role → Follows ks self.old → AreFirst ks (self.old.tokens + 1) self.new.faults }
+        ensures depth { self.new.order.depth ≤ self.old.order.depth + 1 }
+        ensures others { self.new ≡ record self.old { order = self.new.order; faults = self.new.faults } }
+    {
+        let next = self.order.behind(self.latest, role);
+        let clash = self.clashes_first(role, bond);
+        let pair = self.pairs_first(role, bond);
+        self.faults = self.faults.with(self.tokens, next.is_none(), clash, pair);
+        self.order = next.unwrap_or(self.order);
+    }
+
+    /// Takes a token that stands here, and completes this bond.
+    #[inline(always)]
+    fn take(&mut self, role: Role, bond: Option<TextBond>) -> Result<(), AllocError>
+        requires tokens { self.old.tokens < 2 ^ 32 - 1 }
+        requires count { self.old.count ≤ self.old.tokens }
+        ensures reads { OnOk result ((before : List Role) → bond ≡ completed before role → Reads self.old before → Reads self.new (role ∷ before)) }
+        ensures tokens { OnOk result (self.new.tokens ≡ self.old.tokens + 1) }
+        ensures count { OnOk result (self.new.count ≤ self.old.count + 1) }
+        ensures order { OnOk result (self.new.order ≡ self.old.order) }
+        ensures faults { OnOk result (self.new.faults ≡ self.old.faults) }
+    {
+        let here = self.here();
+        self.rings.read(role, here)?;
+        self.branches.read(role, self.count)?;
+        push_some(&mut self.bonds, bond)?;
+        self.count += atoms_of(role);
+        self.tokens += 1;
+        self.latest = Some(role);
+        Ok(())
     }
 
     /// One more token.
     #[inline(always)]
     pub fn read(&mut self, role: Role) -> Result<(), AllocError>
-        requires few { self.old.builder.tokens < 2 ^ 32 - 1 }
+        requires few { self.old.tokens < 2 ^ 32 - 1 }
         requires bounded { IsBounded self.old }
-        ensures follows { OnOk result ((ks : List Role) (d : Role) → self.old.builder.tokens < length ks → get_or ks self.old.builder.tokens d ≡ role → Follows ks self.old → Follows ks self.new) }
+        ensures follows { OnOk result ((ks : List Role) (d : Role) → self.old.tokens < length ks → get_or ks self.old.tokens d ≡ role → Follows ks self.old → Follows ks self.new) }
         ensures bounded { OnOk result (IsBounded self.new) }
-        ensures tokens { OnOk result (self.new.builder.tokens ≡ self.old.builder.tokens + 1) }
+        ensures tokens { OnOk result (self.new.tokens ≡ self.old.tokens + 1) }
     {
-        let previous = self.builder.latest();
-        self.order.read(previous, role, self.builder.token_count());
-        self.clash = clash_or_here(self.clash, &self.builder, role);
-        self.pair = pair_or_here(self.pair, &self.builder, role);
-        self.builder.read(role)?;
+        let bond = self.completed(role);
+        self.look(role, bond);
+        self.take(role, bond)?;
         Ok(())
     }
 
     /// The first place at which a token, or the end, may not stand, where these are all tokens.
     fn first_misplaced(&self) -> Option<u32>
-        ensures { (ks : List Role) → self.now.builder.tokens ≡ length ks → Follows ks self.now → IsFirstOf (misplaced_at ks) (length ks + 1) result }
+        ensures { (ks : List Role) → self.now.tokens ≡ length ks → Follows ks self.now → IsFirstOf (misplaced_at ks) (length ks + 1) result }
     {
-        self.order
-            .first_misplaced(self.builder.latest(), self.builder.token_count())
+        match self.faults.misplaced {
+            Some(first) => Some(first),
+            None => {
+                if may_end(self.latest) {
+                    None
+                } else {
+                    Some(self.tokens)
+                }
+            }
+        }
+    }
+
+    /// Whether no branch is open behind the tokens, and each of them may stand where it does.
+    fn is_closed(&self) -> bool
+        ensures { (ks : List Role) → result ≡ true → self.now.tokens ≡ length ks → Follows ks self.now → (i : ℕ) → unclosed_at ks i ≡ false }
+    {
+        self.faults.misplaced.is_none() && self.order.is_flat()
     }
 
     /// The first `(` of a text that is never closed, where these are all its tokens. They are read again only
@@ -124,11 +229,11 @@ impl Structure {
     fn first_unclosed(&self, alloc: Global, text: &[u8]) -> Result<Option<usize>, AllocError>
         requires short { length text.now < 2 ^ 32 - 1 }
         requires follows { Follows (roles_in text.now) self.now }
-        requires all { self.now.builder.tokens ≡ length (roles_in text.now) }
+        requires all { self.now.tokens ≡ length (roles_in text.now) }
         ensures first { IfOk result (IsFirstOf (unclosed_at (roles_in text.now)) (length (roles_in text.now))) }
         ensures small { IfOk result (λ found. IfSome found (λ i. i < 2 ^ 32)) }
     {
-        if self.order.is_closed() {
+        if self.is_closed() {
             return Ok(None);
         }
         let roles = roles_of(alloc, text)?;
@@ -137,9 +242,9 @@ impl Structure {
 
     /// The first ring number that stays open, where these are all tokens.
     fn first_open(&self) -> Option<u32>
-        ensures { (ks : List Role) → self.now.builder.tokens ≡ length ks → Follows ks self.now → IsFirstOpen (reverse ks) result }
+        ensures { (ks : List Role) → self.now.tokens ≡ length ks → Follows ks self.now → IsFirstOpen (reverse ks) result }
     {
-        first_open(self.builder.ends())
+        self.rings.first_open()
     }
 
     /// The first fault of the tokens of a text, where these are all of them; its place is a token, from 0, or the
@@ -147,7 +252,7 @@ impl Structure {
     pub fn fault(&self, alloc: Global, text: &[u8]) -> Result<Option<Fault>, AllocError>
         requires short { length text.now < 2 ^ 32 - 1 }
         requires follows { Follows (roles_in text.now) self.now }
-        requires all { self.now.builder.tokens ≡ length (roles_in text.now) }
+        requires all { self.now.tokens ≡ length (roles_in text.now) }
         ensures { IfOk result (IsFirstFault (WrongAt (roles_in text.now))) }
     {
         if let Some(place) = self.first_misplaced() {
@@ -168,13 +273,13 @@ impl Structure {
                 place,
             }));
         }
-        if let Some(place) = self.clash {
+        if let Some(place) = self.faults.clash {
             return Ok(Some(Fault {
                 kind: Kind::RingClash,
                 place,
             }));
         }
-        if let Some(place) = self.pair {
+        if let Some(place) = self.faults.pair {
             return Ok(Some(Fault {
                 kind: Kind::RingPair,
                 place,
@@ -183,21 +288,25 @@ impl Structure {
         Ok(None)
     }
 
-    pub fn into_bonds(self) -> Vec<Bond>
-        ensures { result ≡ self.builder.bonds }
+    pub fn into_bonds(self) -> Vec<TextBond>
+        ensures { result ≡ self.bonds }
     {
         let Structure {
-            builder,
+            bonds,
+            tokens: _,
+            count: _,
+            latest: _,
+            branches: _,
+            rings: _,
             order: _,
-            clash: _,
-            pair: _,
+            faults: _,
         } = self;
-        builder.into_bonds()
+        bonds
     }
 
-    pub fn bonds(&self) -> &[Bond]
-        ensures { result.now ≡ self.now.builder.bonds.items }
+    pub fn bonds(&self) -> &[TextBond]
+        ensures { result.now ≡ self.now.bonds.items }
     {
-        self.builder.bonds()
+        self.bonds.as_slice()
     }
 }

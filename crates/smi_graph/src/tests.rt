@@ -1,8 +1,9 @@
 mod plain;
 
-use crate::{Link, SkelAtom, SkelBond, Skeleton, read_skeleton};
+use crate::{Link, SkelAtom, SkelBond, Skeleton, bonds_with_orders, read_skeleton};
 use mc_base::{AtomId, BondId, Kind, Span, Stop};
 use mc_elements::Element;
+use smi_lex::BondMark;
 use std::alloc::Global;
 use std::process::Abort;
 use std::test::Fail;
@@ -43,7 +44,7 @@ fn joins(rt: &(impl Abort + AllocGlobal), text: &str, atoms: usize, bonds: &[(u3
     for (bond, (first, second, order)) in skeleton.bonds().iter().zip(bonds) {
         assert_eq!(rt; bond.first, AtomId(*first), "{text}");
         assert_eq!(rt; bond.second, AtomId(*second), "{text}");
-        assert_eq!(rt; bond.order, *order, "{text}");
+        assert_eq!(rt; bond.order(), *order, "{text}");
     }
 }
 
@@ -384,16 +385,7 @@ fn atoms_of_a_text(rt: HostRuntime) {
 
 #[test]
 fn parts_of_a_skeleton(rt: HostRuntime) -> Result<(), Fail> {
-    let read = skeleton_of(&rt, "C=O");
-    let mut bonds = Vec::new(rt.alloc());
-    for bond in read.bonds() {
-        bonds.push(*bond)?;
-    }
-    let mut atoms = Vec::new(rt.alloc());
-    for atom in read.atoms() {
-        atoms.push(*atom)?;
-    }
-    let skeleton = Skeleton::new(atoms, bonds);
+    let skeleton = skeleton_of(&rt, "C=O");
     assert!(rt; skeleton.atoms().len() == 2 && skeleton.bonds().len() == 1);
     assert_eq!(rt; skeleton.atom_count(), 2);
     assert_eq!(rt; skeleton.bond_count(), 1);
@@ -404,7 +396,41 @@ fn parts_of_a_skeleton(rt: HostRuntime) -> Result<(), Fail> {
         link: Link::Order(2),
     };
     assert_eq!(rt; skeleton.bond(BondId(0)), double);
+    let bonds = bonds_with_orders(rt.alloc(), skeleton.bonds())?;
+    assert_eq!(rt; bonds.len(), 1);
+    assert_eq!(rt; bonds[0].order, 2);
+    assert_eq!(rt; bonds[0].second, AtomId(1));
     Ok(())
+}
+
+/// The symbols of the bonds of a text, at the first and at the second end.
+fn marks(
+    rt: &(impl Abort + AllocGlobal),
+    text: &str,
+    rows: &[(Option<BondMark>, Option<BondMark>)],
+) {
+    let skeleton = skeleton_of(rt, text);
+    assert_eq!(rt; skeleton.bonds().len(), rows.len(), "{text}");
+    for (bond, (opening, closing)) in skeleton.bonds().iter().zip(rows) {
+        assert_eq!(rt; bond.opening, *opening, "{text}");
+        assert_eq!(rt; bond.closing, *closing, "{text}");
+    }
+}
+
+#[test]
+fn symbols_of_bonds(rt: HostRuntime) {
+    let double = Some(BondMark::Double);
+    let single = Some(BondMark::Single);
+    marks(&rt, "CC", &[(None, None)]);
+    marks(&rt, "C=C", &[(double, None)]);
+    marks(&rt, "C(=C)-C", &[(double, None), (single, None)]);
+    marks(&rt, "C=1CC1", &[(None, None), (None, None), (double, None)]);
+    marks(&rt, "C1CC=1", &[(None, None), (None, None), (None, double)]);
+    marks(
+        &rt,
+        "C=1CC=1",
+        &[(None, None), (None, None), (double, double)],
+    );
 }
 
 /// The reader answers what the plain program says of a text.
@@ -420,7 +446,7 @@ fn agrees(rt: &(impl Abort + AllocGlobal), text: &[u8]) {
                         Some(bond) => {
                             assert_eq!(rt; bond.first.0 as usize, first, "{text:?}");
                             assert_eq!(rt; bond.second.0 as usize, second, "{text:?}");
-                            assert_eq!(rt; bond.order, order, "{text:?}");
+                            assert_eq!(rt; bond.order(), order, "{text:?}");
                             known = known.saturating_add(1);
                         }
                         None => panic!(rt; "{text:?} has more bonds"),

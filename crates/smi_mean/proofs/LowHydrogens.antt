@@ -13,7 +13,7 @@ use Rattle.smi_lex.specs.declared.token.TokenKind.TheVariants as kind
 use Rattle.smi_lex.specs.Grammar.{WritesDigits, SpellsHydrogens, Spells}
 use Rattle.smi_lex.specs.Reading.{IsReading}
 use Rattle.smi_lex.specs.Tokens.{tokens, unread}
-use Rattle.smi_graph.specs.declared.skeleton.SkelAtom.{SkelAtom}
+use Rattle.smi_graph.specs.declared.skel_atom.SkelAtom.{SkelAtom}
 use Rattle.smi_graph.specs.Roles.{atom_of, atoms_of}
 
 -- the implied hydrogens

@@ -1,6 +1,6 @@
 -- The first kind that stands in a text.
 use Rattle.std.proofs.Common.{arith, ◌≡◌, ◌∙◌, ℕ, zero, suc, ◌+◌, ◌≤◌, ◌<◌, List, [], ◌∷◌, length, Bool, true, false, Some, None, refl, sym, ap, subst, inl, inr}
-use Rattle.std.specs.Prelude.{slice_get, ◌⊎◌}
+use Rattle.std.specs.Prelude.{map, slice_get, ◌⊎◌}
 use Rattle.std.proofs.lemmas.Bool.{cases_lt, false≢true}
 use Rattle.mc_base.specs.declared.kind.Kind.{Kind}
 use Rattle.mc_base.specs.declared.kind.Kind.TheVariants.{NotBuilt, BadToken, Wildcard, OtherChirality, BadOrder, ParenOpen, RingOpen, RingClash, RingPair, LimitAtoms, LimitBonds, LimitRings, LimitIsotope, LimitClass, LimitCharge, LimitValence, HydrogenOnHydrogen}
@@ -10,12 +10,12 @@ use Rattle.mc_base.specs.declared.refusal.Stop.TheVariants.{Refused, NoMemory}
 use Rattle.mc_base.specs.Kinds.{number}
 use Rattle.mc_base.specs.Shown.{IsFirst}
 use Rattle.mc_mol.specs.Molecule.{Molecule}
-use Rattle.mc_mol.specs.declared.parts.Bond.{Bond}
-use Rattle.smi_graph.specs.declared.skeleton.SkelAtom.{SkelAtom}
-use Rattle.smi_graph.specs.declared.skeleton.Skeleton.{Skeleton}
-use Rattle.smi_graph.specs.Reading.{IsFirstOf}
+use Rattle.smi_graph.specs.declared.skel_atom.SkelAtom.{SkelAtom}
+use Rattle.smi_graph.specs.Firsts.{IsFirstOf}
 use Rattle.smi_graph.specs.Rules.{atoms_in, BreaksAt}
-use Rattle.smi_graph.specs.Skeletons.{IsSkeleton, IsNoBarrier, IsBroken}
+use Rattle.smi_graph.specs.declared.text_bond.TextBond.{TextBond}
+use Rattle.smi_graph.specs.Links.{bond_of}
+use Rattle.smi_graph.specs.Skeletons.{TextGraph, IsSkeleton, IsNoBarrier, IsBroken}
 use Rattle.smi_mean.specs.Meaning.{meaning_of, meaning}
 use Rattle.smi_mean.specs.Rules.{overvalent_at, hydrogen_on_hydrogen_at, IsWrongAtom, StandsAt, SmilesStands, IsRefused}
 use Rattle.smi_mean.specs.Meant.{IsMeantBy, IsFaulty}
@@ -145,11 +145,11 @@ wrong_number m HydrogenOnHydrogen place w = omega arith
 wrong_number m _ place w = absurd w
 
 -- the molecule of the skeleton's parts
-meant : (text : List ℕ) (skeleton : Skeleton) → IsSkeleton text skeleton → meaning_of skeleton.atoms.items skeleton.bonds.items ≡ meaning text
-meant text skeleton s = ap (λ (x : List SkelAtom). meaning_of x skeleton.bonds.items) s.atoms ∙ ap (λ (x : List Bond). meaning_of (atoms_in text) x) s.bonds
+meant : (text : List ℕ) (skeleton : TextGraph) → IsSkeleton text skeleton → meaning_of skeleton.atoms (map bond_of skeleton.bonds) ≡ meaning text
+meant text skeleton s = ap (λ (x : List SkelAtom). meaning_of x (map bond_of skeleton.bonds)) s.atoms ∙ ap (λ (x : List TextBond). meaning_of (atoms_in text) (map bond_of x)) s.bonds
 
 -- a refusal of the molecule is one of the text
-pub refused_of_faulty : (text : List ℕ) (skeleton : Skeleton) (stop : Stop) → IsSkeleton text skeleton → IsFaulty skeleton stop → IsRefused text stop
+pub refused_of_faulty : (text : List ℕ) (skeleton : TextGraph) (stop : Stop) → IsSkeleton text skeleton → IsFaulty skeleton stop → IsRefused text stop
 refused_of_faulty text skeleton (Refused r) s h =
     let f = subst (λ (m : Molecule). IsFirst (IsWrongAtom m) IsNoBarrier r) (meant text skeleton s) h in
     record {
@@ -167,7 +167,7 @@ refused_of_faulty text skeleton (Refused r) s h =
 refused_of_faulty text skeleton NoMemory s h = tt
 
 -- a text with no broken token and no wrong atom stands for its molecule
-pub stands_of : (text : List ℕ) (skeleton : Skeleton) (m : Molecule) → IsSkeleton text skeleton → IsMeantBy skeleton m → SmilesStands text m
+pub stands_of : (text : List ℕ) (skeleton : TextGraph) (m : Molecule) → IsSkeleton text skeleton → IsMeantBy skeleton m → SmilesStands text m
 stands_of text skeleton m s h =
     let is : m ≡ meaning text = h.molecule ∙ meant text skeleton s in
     record {

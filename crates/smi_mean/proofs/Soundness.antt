@@ -1,6 +1,6 @@
 -- What a text stands for is within the limits.
 use Rattle.std.proofs.Common.{arith, ◌≡◌, ◌∙◌, ℕ, zero, suc, ◌+◌, ◌-◌, ◌≤◌, ◌<◌, List, [], ◌∷◌, length, Bool, true, false, Option, Some, None, refl, sym, ap, subst}
-use Rattle.std.specs.Prelude.{slice_get, option_map, nat_abs, nat_lt, if◌then◌else◌}
+use Rattle.std.specs.Prelude.{map, slice_get, option_map, nat_abs, nat_lt, if◌then◌else◌}
 use Rattle.std.proofs.lemmas.Bool.Decides.{nat_tests}
 use Rattle.mc_base.specs.declared.kind.Kind.TheVariants.{LimitRings, LimitIsotope, LimitClass, LimitCharge}
 use Rattle.mc_elements.specs.Valences.{implied, smiles_valences}
@@ -10,10 +10,11 @@ use Rattle.mc_mol.specs.Molecule.{Molecule, bond_sum}
 use Rattle.mc_mol.specs.Parts.{independent_rings}
 use Rattle.smi_lex.specs.Reading.{IsReading}
 use Rattle.smi_lex.specs.Tokens.{tokens, unread}
-use Rattle.smi_graph.specs.declared.skeleton.SkelAtom.{SkelAtom}
-use Rattle.smi_graph.specs.declared.skeleton.Skeleton.{Skeleton}
-use Rattle.smi_graph.specs.Rules.{atoms_in, bonds_in, fails, is_heavy, is_high_class, is_overcharged}
-use Rattle.smi_graph.specs.Skeletons.{IsSkeleton}
+use Rattle.smi_graph.specs.declared.skel_atom.SkelAtom.{SkelAtom}
+use Rattle.smi_graph.specs.Rules.{atoms_in, bonds_in, fails, has_high_isotope, has_high_class, has_high_charge}
+use Rattle.smi_graph.specs.declared.text_bond.TextBond.{TextBond}
+use Rattle.smi_graph.specs.Links.{bond_of}
+use Rattle.smi_graph.specs.Skeletons.{TextGraph, IsSkeleton}
 use Rattle.smi_mean.specs.Meaning.{hydrogens_of, meant_atom, atoms_with, meaning_of}
 use Rattle.smi_mean.specs.Meant.{IsMeantBy}
 use Rattle.smi_mean.specs.Sound.{IsWithinLimits, IsSound}
@@ -57,10 +58,10 @@ few_hydrogens a sum few = by_test a.bare
     by_test true = implied_low a.element sum
     by_test false = few
 
-pub sound_of : (text : List ℕ) (skeleton : Skeleton) (m : Molecule) → IsReading text 0 (tokens text) (length text - length (unread text)) → IsSkeleton text skeleton → IsMeantBy skeleton m → IsSound m
+pub sound_of : (text : List ℕ) (skeleton : TextGraph) (m : Molecule) → IsReading text 0 (tokens text) (length text - length (unread text)) → IsSkeleton text skeleton → IsMeantBy skeleton m → IsSound m
 sound_of text skeleton m reading s h =
     let is : m ≡ meaning_of (atoms_in text) (bonds_in text) =
-    h.molecule ∙ (ap (λ (x : List SkelAtom). meaning_of x skeleton.bonds.items) s.atoms ∙ ap (λ (x : List Bond). meaning_of (atoms_in text) x) s.bonds) in
+    h.molecule ∙ (ap (λ (x : List SkelAtom). meaning_of x (map bond_of skeleton.bonds)) s.atoms ∙ ap (λ (x : List TextBond). meaning_of (atoms_in text) (map bond_of x)) s.bonds) in
     let rings : independent_rings (bonds_in text) (length (atoms_in text)) ≤ 99 = below (independent_rings (bonds_in text) (length (atoms_in text))) 99 (λ place w. s.accepted LimitRings place w) in
     let len : length (atoms_with (bonds_in text) 0 (atoms_in text)) ≡ length (atoms_in text) = length_atoms (bonds_in text) 0 (atoms_in text) in
     record {
@@ -78,8 +79,8 @@ sound_of text skeleton m reading s h =
 
     by_atom : (k : ℕ) (atom : Atom) → (a : SkelAtom) × (slice_get (atoms_in text) k ≡ Some a) × (meant_atom a (bond_sum (bonds_in text) (0 + k)) ≡ atom) → IsWithinLimits atom
     by_atom k atom (a, at, made) = subst IsWithinLimits made (record {
-      isotope = low 999 a.isotope (fine k a is_heavy at (λ holds. s.accepted LimitIsotope (k + 1) (k, refl, holds)));
-      class = low 999 a.class (fine k a is_high_class at (λ holds. s.accepted LimitClass (k + 1) (k, refl, holds)));
-      charge = low 15 (nat_abs a.charge) (fine k a is_overcharged at (λ holds. s.accepted LimitCharge (k + 1) (k, refl, holds)));
+      isotope = low 999 a.isotope (fine k a has_high_isotope at (λ holds. s.accepted LimitIsotope (k + 1) (k, refl, holds)));
+      class = low 999 a.class (fine k a has_high_class at (λ holds. s.accepted LimitClass (k + 1) (k, refl, holds)));
+      charge = low 15 (nat_abs a.charge) (fine k a has_high_charge at (λ holds. s.accepted LimitCharge (k + 1) (k, refl, holds)));
       hydrogens = few_hydrogens a _ (atoms_low text reading k a at);
     })

@@ -4,7 +4,7 @@ use Rattle.mc_elements.specs.Valences.{smiles_valences, implied}
 use Rattle.mc_mol.specs.declared.parts.Atom.{Atom}
 use Rattle.mc_mol.specs.declared.parts.Bond.{Bond}
 use Rattle.mc_mol.specs.Molecule.{Molecule, bond_sum}
-use Rattle.smi_graph.specs.declared.skeleton.SkelAtom.{SkelAtom}
+use Rattle.smi_graph.specs.declared.skel_atom.SkelAtom.{SkelAtom}
 use Rattle.smi_graph.specs.Rules.{atoms_in, bonds_in}
 
 -- the hydrogens of an atom with this bond sum: a bare atom has those that its bonds leave it, an atom in brackets those

@@ -2,7 +2,7 @@
 use Rattle.std.specs.Prelude.{ℕ, zero, suc, Bool, true, false, not, ◌&&◌, ◌||◌, List, [], ◌∷◌, ◌++◌, Option, Some, None, ◌==◌, length, option_map, if◌then◌else◌}
 use Rattle.mc_mol.specs.declared.parts.Bond.{Bond}
 use Rattle.mc_mol.specs.Molecule.{Molecule, joins, are_joined}
-use Rattle.smi_graph.specs.Bonds.{or_else}
+use Rattle.smi_graph.specs.Links.{or_else}
 
 -- how many atoms there are, which are joined, and by bonds of which order
 pub record Graph : Type 0 where

@@ -55,11 +55,11 @@ closed_tokens (p ∷ ps) = Ring p.number ∷ closed_tokens ps
 
 abbrev pub opened_tokens : List Pair → List TokenKind
 opened_tokens [] = []
-opened_tokens (p ∷ ps) = mark_tokens (symbol_of p.order) ++ (Ring p.number ∷ opened_tokens ps)
+opened_tokens (p ∷ ps) = mark_tokens p.symbol ++ (Ring p.number ∷ opened_tokens ps)
 
 -- the ring numbers at atom k: those that close, then those that open
-abbrev pub ring_tokens : (ℕ → ℕ → ℕ) → (ℕ → ℕ → Bool) → ℕ → ℕ → List TokenKind
-ring_tokens orders rings n k = closed_tokens (closing orders rings n k) ++ opened_tokens (opening orders rings n k)
+abbrev pub ring_tokens : (ℕ → ℕ → Option BondMark) → (ℕ → ℕ → Bool) → ℕ → ℕ → List TokenKind
+ring_tokens symbols rings n k = closed_tokens (closing symbols rings n k) ++ opened_tokens (opening symbols rings n k)
 
 abbrev pub if_not : Bool → TokenKind → List TokenKind
 if_not true k = []
@@ -68,18 +68,18 @@ if_not false k = k ∷ []
 -- What stands before atom k. Its parent is atom p - 1, and it has none where p is 0; `qs` are the same for the later
 -- atoms. All children of an atom but the last are branches: `)` stands before each child but the first, `(` before each
 -- child but the last. An atom without a parent stands behind a dot, unless it is the first.
-abbrev pub before_atom : (ℕ → ℕ → ℕ) → ℕ → ℕ → List ℕ → List TokenKind
-before_atom orders zero zero qs = []
-before_atom orders (suc j) zero qs = Dot ∷ []
-before_atom orders k (suc p) qs =
-    if_not (suc p == k) Leave ++ (if_not (not (has (suc p) qs)) Enter ++ mark_tokens (symbol_of (orders p k)))
+abbrev pub before_atom : (ℕ → ℕ → Option BondMark) → ℕ → ℕ → List ℕ → List TokenKind
+before_atom symbols zero zero qs = []
+before_atom symbols (suc j) zero qs = Dot ∷ []
+before_atom symbols k (suc p) qs =
+    if_not (suc p == k) Leave ++ (if_not (not (has (suc p) qs)) Enter ++ mark_tokens (symbols p k))
 
 -- the tokens of the atoms from number k on, which have these tokens and parents
-abbrev pub text_from : (ℕ → ℕ → ℕ) → (ℕ → ℕ → Bool) → ℕ → ℕ → List TokenKind → List ℕ → List TokenKind
-text_from orders rings n k [] qs = []
-text_from orders rings n k (t ∷ ts) [] = []
-text_from orders rings n k (t ∷ ts) (p ∷ qs) =
-    before_atom orders k p qs ++ (t ∷ (ring_tokens orders rings n k ++ text_from orders rings n (suc k) ts qs))
+abbrev pub text_from : (ℕ → ℕ → Option BondMark) → (ℕ → ℕ → Bool) → ℕ → ℕ → List TokenKind → List ℕ → List TokenKind
+text_from symbols rings n k [] qs = []
+text_from symbols rings n k (t ∷ ts) [] = []
+text_from symbols rings n k (t ∷ ts) (p ∷ qs) =
+    before_atom symbols k p qs ++ (t ∷ (ring_tokens symbols rings n k ++ text_from symbols rings n (suc k) ts qs))
 
 -- the atom at a place
 abbrev pub at : Graph → ℕ → ℕ
@@ -89,17 +89,17 @@ at g k = get_or (atoms (order g)) k 0
 abbrev pub has_ring : Graph → ℕ → ℕ → Bool
 has_ring g j l = g.joined (at g j) (at g l) && not (get_or (parents (order g)) l 0 == suc j)
 
--- the order of the bond between the atoms at these places
-abbrev pub bond_order : Graph → ℕ → ℕ → ℕ
-bond_order g j l = g.order (at g j) (at g l)
+-- the symbol of the bond between the atoms at these places, by its order
+abbrev pub bond_symbol : Graph → ℕ → ℕ → Option BondMark
+bond_symbol g j l = symbol_of (g.order (at g j) (at g l))
 
--- the tokens of a graph whose atoms have these tokens
-abbrev pub graph_tokens : Graph → (ℕ → TokenKind) → List TokenKind
-graph_tokens g token =
-    text_from (λ j l. bond_order g j l) (λ j l. has_ring g j l) g.count 0 (map token (atoms (order g))) (parents (order g))
+-- the tokens of a graph whose atoms have these tokens and whose bonds, by the places of their atoms, have these symbols
+abbrev pub graph_tokens : Graph → (ℕ → ℕ → Option BondMark) → (ℕ → TokenKind) → List TokenKind
+graph_tokens g symbols token =
+    text_from symbols (λ j l. has_ring g j l) g.count 0 (map token (atoms (order g))) (parents (order g))
 
 abbrev pub written_tokens : Molecule → List TokenKind
-written_tokens m = graph_tokens (graph_of m) (atom_token m)
+written_tokens m = graph_tokens (graph_of m) (λ j l. bond_symbol (graph_of m) j l) (atom_token m)
 
 -- The text
 

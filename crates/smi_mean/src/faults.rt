@@ -1,7 +1,7 @@
 ghost use Rattle.std.specs.Prelude.{◌≡◌, ℕ, ◌+◌, ◌≤◌, ◌<◌, ◌||◌, false, Some, None, IfSome, IfNone, length, get_or, slice_get};
 ghost use Rattle.mc_base.specs.Shown.{IsFirst};
 ghost use Rattle.mc_mol.specs.Molecule.{bond_sum};
-ghost use Rattle.smi_graph.specs.Reading.{IsFirstOf};
+ghost use Rattle.smi_graph.specs.Firsts.{IsFirstOf};
 ghost use Rattle.smi_graph.specs.Skeletons.{IsNoBarrier};
 ghost use Rattle.smi_mean.specs.Meaning.{without_stereo};
 ghost use Rattle.smi_mean.specs.Rules.{is_hydrogen_with_more, is_over, overvalent_at, hydrogen_on_hydrogen_at, IsWrongAtom};

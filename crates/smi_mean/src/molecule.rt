@@ -8,12 +8,11 @@ use std::alloc::Global;
 
 /// The molecule of these atoms and bonds.
 #[tactic(auto, using(crate::proofs::Building::nones_are))]
-pub fn molecule(alloc: Global, atoms: Vec<Atom>, bonds: &[Bond]) -> Result<Mol, NoMemory>
+pub fn molecule(alloc: Global, atoms: Vec<Atom>, bonds: Vec<Bond>) -> Result<Mol, NoMemory>
     requires few_atoms { length atoms.items ≤ 999 }
-    requires few_bonds { length bonds.now ≤ 999 }
-    requires sound { AreBonds (length atoms.items) bonds.now }
-    ensures { IfOk result (λ mol. mol ≡ without_stereo atoms.items bonds.now) }
+    requires few_bonds { length bonds.items ≤ 999 }
+    requires sound { AreBonds (length atoms.items) bonds.items }
+    ensures { IfOk result (λ mol. mol ≡ without_stereo atoms.items bonds.items) }
 {
-    let bonds = Vec::from_slice(alloc, bonds)?;
     Mol::of(alloc, atoms, bonds)
 }

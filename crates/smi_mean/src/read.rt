@@ -1,5 +1,5 @@
 ghost use Rattle.std.specs.Prelude.{◌≡◌, ◌+◌, ◌≤◌, ◌<◌, ◌^◌, ◌-◌, IfOk, IfErr, length, drop, slice_range};
-ghost use Rattle.smi_graph.specs.Skeletons.{AreBonds, IsSkeleton};
+ghost use Rattle.smi_graph.specs.Skeletons.{IsSkeleton};
 ghost use Rattle.smi_mean.specs.Meant.{IsMeantBy, IsFaulty};
 ghost use Rattle.smi_mean.specs.Lines.{text_of, name_of};
 ghost use Rattle.smi_mean.specs.Rules.{SmilesStands, IsRefused};
@@ -11,7 +11,7 @@ use crate::line::text_end;
 use crate::molecule::molecule;
 use mc_base::{Span, Stop};
 use mc_mol::{Mol, bond_sums};
-use smi_graph::{Skeleton, read_skeleton};
+use smi_graph::{Skeleton, bonds_with_orders, read_skeleton};
 use std::alloc::Global;
 
 /// What a line of a SMILES file is read as: the molecule that its text stands for, the skeleton of the text, and
@@ -30,6 +30,7 @@ fn name_span(line: &[u8], end: usize) -> Span
     requires name { drop (end + 1) line.now ≡ name_of line.now }
     ensures name { slice_range line.now result.from result.to ≡ name_of line.now }
     ensures within { (result.from ≤ result.to) × (result.to ≤ length line.now) }
+    ensures place { (result.to ≡ length line.now) × (result.from + length (name_of line.now) ≡ length line.now) }
 {
     let to = line.len() as u32;
     let from = if end < line.len() { end as u32 + 1 } else { to };
@@ -38,16 +39,13 @@ fn name_span(line: &[u8], end: usize) -> Span
 
 /// The molecule that a text stands for which has this skeleton, or the first kind that stands in it.
 fn mean(alloc: Global, skeleton: &Skeleton) -> Result<Mol, Stop>
-    requires few_atoms { length skeleton.now.atoms.items ≤ 999 }
-    requires few_bonds { length skeleton.now.bonds.items ≤ 999 }
-    requires sound { AreBonds (length skeleton.now.atoms.items) skeleton.now.bonds.items }
     ensures ok { IfOk result (λ mol. IsMeantBy skeleton.now mol) }
     ensures err { IfErr result (IsFaulty skeleton.now) }
 {
-    let bonds = skeleton.bonds();
-    let sums = bond_sums(alloc, bonds, skeleton.atoms().len())?;
-    let atoms = atoms_with(alloc, bonds, &sums, skeleton.atoms())?;
-    if let Some(refusal) = atom_refusal(alloc, &atoms, bonds, &sums) {
+    let bonds = bonds_with_orders(alloc, skeleton.bonds())?;
+    let sums = bond_sums(alloc, &bonds, skeleton.atoms().len())?;
+    let atoms = atoms_with(alloc, &bonds, &sums, skeleton.atoms())?;
+    if let Some(refusal) = atom_refusal(alloc, &atoms, &bonds, &sums) {
         return Err(Stop::Refused(refusal));
     }
     let mol = molecule(alloc, atoms, bonds)?;
@@ -62,6 +60,7 @@ pub fn read_smiles(alloc: Global, line: &[u8]) -> Result<SmilesRead, Stop>
     ensures sound { IfOk result (λ read. IsSound read.mol) }
     ensures name { IfOk result (λ read. slice_range line.now read.name.from read.name.to ≡ name_of line.now) }
     ensures within { IfOk result (λ read. (read.name.from ≤ read.name.to) × (read.name.to ≤ length line.now)) }
+    ensures place { IfOk result (λ read. (read.name.to ≡ length line.now) × (read.name.from + length (name_of line.now) ≡ length line.now)) }
     ensures err { IfErr result (IsRefused (text_of line.now)) }
 {
     let end = text_end(line);

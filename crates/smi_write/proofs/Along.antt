@@ -28,7 +28,7 @@ front : (test : List Role → Option Role → Bool) (ks : List Role) (i left : �
 front test ks i zero e h = subst (λ (n : ℕ). Along test (tokens_before ks n)) (let same : length ks ≡ i = omega arith in same) (subst (λ (x : List Role). Along test x) (sym (all_before ks)) h)
 front test ks i (suc left) e h =
     let later = front test ks (i + 1) left (omega arith) h in
-    let more = subst (λ (x : List Role). Along test x) (tokens_before_more ks i Atom (omega arith)) later in more.0
+    let more = subst (λ (x : List Role). Along test x) (tokens_before_more ks i (Atom false) (omega arith)) later in more.0
 
 left_over : (i n : ℕ) → i ≤ n → (left : ℕ) × (i + left ≡ n)
 left_over zero n le = (n, omega arith)
@@ -45,8 +45,8 @@ at_places test ks h end i le = elim (cases_lt i (length ks)) [
   | inl less ↦
       let (left, e) = left_over (i + 1) (length ks) (omega arith) in
       let later = front test ks (i + 1) left e h in
-      let more = subst (λ (x : List Role). Along test x) (tokens_before_more ks i Atom less) later in
-      ap (test (tokens_before ks i)) (slice_get-get_or ks i Atom less) ∙ more.1
+      let more = subst (λ (x : List Role). Along test x) (tokens_before_more ks i (Atom false) less) later in
+      ap (test (tokens_before ks i)) (slice_get-get_or ks i (Atom false) less) ∙ more.1
   | inr ge ↦
       let same : length ks ≡ i = omega arith in
       subst (λ (n : ℕ). test (tokens_before ks n) (slice_get ks n) ≡ false) same

@@ -1,7 +1,7 @@
 -- The atoms of a text, by the kinds of its tokens.
 use Rattle.std.proofs.Common.{arith, ◌≡◌, ◌<◌, ◌+◌, ◌==◌, ℕ, zero, suc, Bool, true, false, List, [], ◌∷◌, ◌++◌, length, get_or, map, Some, refl, sym, ap, ◌∙◌, inl, inr}
 use Rattle.std.specs.Prelude.{slice_get, ℤ, pos, negsuc, nat_abs}
-use Rattle.std.proofs.lemmas.Bool.{cases_Bool}
+use Rattle.std.proofs.lemmas.Bool.{cases_Bool, and_parts}
 use Rattle.mc_base.specs.declared.span.Span.{Span}
 use Rattle.mc_elements.specs.declared.element.Element.{Element}
 use Rattle.mc_elements.specs.declared.element.Element.TheVariants.{C}
@@ -13,14 +13,15 @@ use Rattle.smi_lex.specs.Grammar.{may_be_bare}
 use Rattle.smi_lex.specs.declared.token.Token.{Token}
 use Rattle.smi_lex.specs.declared.token.TokenKind.{TokenKind}
 use Rattle.smi_lex.specs.declared.token.TokenKind.TheVariants as kind
-use Rattle.smi_lex.proofs.Sound.{both_true}
 use Rattle.smi_graph.specs.declared.role.Role.TheVariants as doing
-use Rattle.smi_graph.specs.declared.skeleton.SkelAtom.{SkelAtom}
+use Rattle.smi_graph.specs.declared.skel_atom.SkelAtom.{SkelAtom}
 use Rattle.smi_graph.specs.Roles.{role_of, bare_atom, bracket_atom, atom_of, atoms_of}
 use Rattle.smi_mean.specs.Meaning.{meant_atom, atoms_with}
+use Rattle.std.specs.Prelude.{Option}
+use Rattle.smi_lex.specs.declared.token.BondMark.{BondMark}
 use Rattle.smi_mean.specs.RingNumbers.{opening}
 use Rattle.smi_mean.specs.Written.{before_atom, is_bare, ring_tokens, text_from, token_of}
-use Rattle.smi_write.proofs.EachToken.{Each, HoldsBetween, any_numbers, each_before, each_ring}
+use Rattle.smi_write.proofs.EachToken.{Each, HoldsBetween, any_numbers, any_symbols, each_before, each_ring}
 use Rattle.smi_write.proofs.TokenSpelled.{same_number}
 
 -- ---- the atoms of tokens
@@ -109,22 +110,22 @@ no_atoms ks later none = atoms_append ks later ∙ ap (λ (ts : List TokenKind).
 abbrev IsNoAtom : TokenKind → Type 0
 IsNoAtom k = atom_tokens (k ∷ []) ≡ []
 
-none_between : HoldsBetween IsNoAtom (λ n. Unit {0})
-none_between = record { double = refl; triple = refl; quadruple = refl; ring = λ number is. refl; enter = refl; leave = refl; dot = refl }
+none_between : HoldsBetween IsNoAtom (λ m. Unit {0}) (λ n. Unit {0})
+none_between = record { mark = λ mark is. refl; ring = λ number is. refl; enter = refl; leave = refl; dot = refl }
 
 none_each : (ks : List TokenKind) → Each IsNoAtom ks → atom_tokens ks ≡ []
 none_each [] none = refl
 none_each (k ∷ ks) none = no_atoms (k ∷ []) ks none.0 ∙ none_each ks none.1
 
-none_before : (orders : ℕ → ℕ → ℕ) (k p : ℕ) (qs : List ℕ) → atom_tokens (before_atom orders k p qs) ≡ []
-none_before orders k p qs = none_each (before_atom orders k p qs) (each_before IsNoAtom (λ n. Unit {0}) orders k p qs none_between)
+none_before : (symbols : ℕ → ℕ → Option BondMark) (k p : ℕ) (qs : List ℕ) → atom_tokens (before_atom symbols k p qs) ≡ []
+none_before symbols k p qs = none_each (before_atom symbols k p qs) (each_before IsNoAtom (λ m. Unit {0}) (λ n. Unit {0}) symbols k p qs none_between (any_symbols symbols))
 
-none_rings : (orders : ℕ → ℕ → ℕ) (rings : ℕ → ℕ → Bool) (n k : ℕ) → atom_tokens (ring_tokens orders rings n k) ≡ []
-none_rings orders rings n k =
-    none_each (ring_tokens orders rings n k)
-    (each_ring IsNoAtom (λ n. Unit {0}) orders rings n k none_between (λ j. any_numbers (opening orders rings n j)))
+none_rings : (symbols : ℕ → ℕ → Option BondMark) (rings : ℕ → ℕ → Bool) (n k : ℕ) → atom_tokens (ring_tokens symbols rings n k) ≡ []
+none_rings symbols rings n k =
+    none_each (ring_tokens symbols rings n k)
+    (each_ring IsNoAtom (λ m. Unit {0}) (λ n. Unit {0}) symbols rings n k none_between (any_symbols symbols) (λ j. any_numbers (opening symbols rings n j)))
 
-atom_first : (t : TokenKind) (ks : List TokenKind) → role_of t ≡ doing.Atom → atom_tokens (t ∷ ks) ≡ t ∷ atom_tokens ks
+atom_first : (t : TokenKind) (ks : List TokenKind) → role_of t ≡ doing.Atom false → atom_tokens (t ∷ ks) ≡ t ∷ atom_tokens ks
 atom_first (kind.Bare element lower) ks is = refl
 atom_first (kind.Bracket element lower isotope chiral hydrogens charge class) ks is = refl
 atom_first (kind.Bond mark) ks is = cc
@@ -134,18 +135,18 @@ atom_first kind.Leave ks is = cc
 atom_first kind.Dot ks is = cc
 
 -- the tokens of atoms are those that were given
-pub atoms_of_text : (orders : ℕ → ℕ → ℕ) (rings : ℕ → ℕ → Bool) (n k : ℕ) (token : ℕ → TokenKind) (us qs : List ℕ)
-    → ((u : ℕ) → role_of (token u) ≡ doing.Atom) → length us ≡ length qs
-    → atom_tokens (text_from orders rings n k (map token us) qs) ≡ map token us
-atoms_of_text orders rings n k token [] qs atom same = refl
-atoms_of_text orders rings n k token (u ∷ us) [] atom same = absurd (omega arith)
-atoms_of_text orders rings n k token (u ∷ us) (p ∷ qs) atom same =
-    let later = text_from orders rings n (suc k) (map token us) qs in
-    no_atoms (before_atom orders k p qs) (token u ∷ (ring_tokens orders rings n k ++ later)) (none_before orders k p qs)
-    ∙ atom_first (token u) (ring_tokens orders rings n k ++ later) (atom u)
+pub atoms_of_text : (symbols : ℕ → ℕ → Option BondMark) (rings : ℕ → ℕ → Bool) (n k : ℕ) (token : ℕ → TokenKind) (us qs : List ℕ)
+    → ((u : ℕ) → role_of (token u) ≡ doing.Atom false) → length us ≡ length qs
+    → atom_tokens (text_from symbols rings n k (map token us) qs) ≡ map token us
+atoms_of_text symbols rings n k token [] qs atom same = refl
+atoms_of_text symbols rings n k token (u ∷ us) [] atom same = absurd (omega arith)
+atoms_of_text symbols rings n k token (u ∷ us) (p ∷ qs) atom same =
+    let later = text_from symbols rings n (suc k) (map token us) qs in
+    no_atoms (before_atom symbols k p qs) (token u ∷ (ring_tokens symbols rings n k ++ later)) (none_before symbols k p qs)
+    ∙ atom_first (token u) (ring_tokens symbols rings n k ++ later) (atom u)
     ∙ ap (λ (ts : List TokenKind). token u ∷ ts)
-    (no_atoms (ring_tokens orders rings n k) later (none_rings orders rings n k)
-    ∙ atoms_of_text orders rings n (suc k) token us qs atom (omega arith))
+    (no_atoms (ring_tokens symbols rings n k) later (none_rings symbols rings n k)
+    ∙ atoms_of_text symbols rings n (suc k) token us qs atom (omega arith))
 
 -- ---- an atom's token means the atom
 
@@ -161,10 +162,10 @@ no_charge (negsuc n) is = absurd (omega arith)
 
 bare_is : (atom : Atom) (sum : ℕ) → is_bare atom sum ≡ true → IsBareAtom atom sum
 bare_is atom sum bare =
-    let may = both_true (may_be_bare atom.element false) _ bare in
-    let isotope = both_true (atom.isotope == 0) _ may.1 in
-    let charge = both_true (nat_abs atom.charge == 0) _ isotope.1 in
-    let class = both_true (atom.class == 0) _ charge.1 in
+    let may = and_parts (may_be_bare atom.element false) _ bare in
+    let isotope = and_parts (atom.isotope == 0) _ may.1 in
+    let charge = and_parts (nat_abs atom.charge == 0) _ isotope.1 in
+    let class = and_parts (atom.class == 0) _ charge.1 in
     record {
       isotope = same_number atom.isotope 0 isotope.0;
       charge = no_charge atom.charge (same_number (nat_abs atom.charge) 0 charge.0);

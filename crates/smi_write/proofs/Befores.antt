@@ -1,4 +1,5 @@
 -- What stands before an atom, by what the writer keeps.
+use Rattle.smi_lex.specs.declared.token.BondMark.{BondMark}
 use Rattle.std.proofs.Common.{◌≡◌, ◌≢◌, ℕ, zero, suc, ◌+◌, ◌-◌, ◌≤◌, ◌<◌, List, [], ◌∷◌, ◌++◌, length, drop, get_or, Bool, Option, refl, ap, sym, ◌∙◌, inl, inr, arith}
 use Rattle.std.specs.Prelude.{◌==◌, not, nat_lt}
 use Rattle.std.proofs.lemmas.Bool.{cases_lt}
@@ -7,7 +8,7 @@ use Rattle.mc_mol.specs.Molecule.{Molecule}
 use Rattle.smi_lex.specs.declared.token.TokenKind.TheVariants.{Enter, Leave}
 use Rattle.smi_mean.specs.Order.{Graph, graph_of, Step, order, order_between, place, parent_place, parents, atoms}
 use Rattle.smi_mean.specs.RingNumbers.{has}
-use Rattle.smi_mean.specs.Written.{at, bond_order, before_atom, if_not, mark_tokens, symbol_of}
+use Rattle.smi_mean.specs.Written.{at, bond_symbol, before_atom, if_not, mark_tokens, symbol_of}
 use Rattle.smi_write.specs.declared.order.WrittenAtoms.{WrittenAtoms}
 use Rattle.smi_write.specs.WrittenOrder.{IsWrittenOrder, LastChildren, order_behind, parent_orders}
 use Rattle.smi_write.proofs.Walk.{Grown, grown, nested, order_nested, place_le, length_parents}
@@ -80,10 +81,10 @@ order_kept m w k (suc j) o h less parent some e =
     ∙ order_at (graph_of m) (order (graph_of m)) j k (grown (graph_of m) (length m.atoms)) (omega arith) is_parent
     ∙ ap (λ (x : ℕ). order_between m.bonds (at (graph_of m) x) (at (graph_of m) k)) one
 
-before_child : (orders : ℕ → ℕ → ℕ) (k j : ℕ) (qs : List ℕ)
-    → before_atom orders k (suc j) qs ≡ if_not (suc j == k) Leave ++ (if_not (not (has (suc j) qs)) Enter ++ mark_tokens (symbol_of (orders j k)))
-before_child orders zero j qs = refl
-before_child orders (suc k) j qs = refl
+before_child : (symbols : ℕ → ℕ → Option BondMark) (k j : ℕ) (qs : List ℕ)
+    → before_atom symbols k (suc j) qs ≡ if_not (suc j == k) Leave ++ (if_not (not (has (suc j) qs)) Enter ++ mark_tokens (symbols j k))
+before_child symbols zero j qs = refl
+before_child symbols (suc k) j qs = refl
 
 later_is : (m : Molecule) (w : WrittenAtoms) (last : List ℕ) (k p : ℕ) → IsWrittenOrder m w → LastChildren w.parents.items (length m.atoms) last → p ≤ length m.atoms
     → has p (drop (k + 1) w.parents.items) ≡ nat_lt k (get_or last p 0)
@@ -94,14 +95,14 @@ later_is m w last k p h last_is le =
 pub before_is : (m : Molecule) (w : WrittenAtoms) (last : List ℕ) (k p o : ℕ) (later : Bool) → IsWrittenOrder m w → LastChildren w.parents.items (length m.atoms) last → k < length m.atoms
     → HasParent m w k p → p ≢ 0 → o ≡ order_between m.bonds (at (graph_of m) (p - 1)) (at (graph_of m) k) → later ≡ nat_lt k (get_or last p 0)
     → if_not (p == k) Leave ++ (if_not (not later) Enter ++ mark_tokens (symbol_of o))
-    ≡ before_atom (λ j l. bond_order (graph_of m) j l) k (get_or w.parents.items k 0) (drop (k + 1) w.parents.items)
+    ≡ before_atom (λ j l. bond_symbol (graph_of m) j l) k (get_or w.parents.items k 0) (drop (k + 1) w.parents.items)
 before_is m w last k zero o later h last_is less parent some is_o is_later = absurd (some refl)
 before_is m w last k (suc j) o later h last_is less parent some is_o is_later =
     let one : suc j - 1 ≡ j = omega arith in
-    let is_o' : o ≡ bond_order (graph_of m) j k = is_o ∙ ap (λ (x : ℕ). order_between m.bonds (at (graph_of m) x) (at (graph_of m) k)) one in
+    let is_o' : o ≡ order_between m.bonds (at (graph_of m) j) (at (graph_of m) k) = is_o ∙ ap (λ (x : ℕ). order_between m.bonds (at (graph_of m) x) (at (graph_of m) k)) one in
     let low = parent.low in
     let is_later' : later ≡ has (suc j) (drop (k + 1) w.parents.items) = is_later ∙ sym (later_is m w last k (suc j) h last_is (omega arith)) in
     ap (λ (x : ℕ). if_not (suc j == k) Leave ++ (if_not (not later) Enter ++ mark_tokens (symbol_of x))) is_o'
-    ∙ ap (λ (b : Bool). if_not (suc j == k) Leave ++ (if_not (not b) Enter ++ mark_tokens (symbol_of (bond_order (graph_of m) j k)))) is_later'
-    ∙ sym (before_child (λ j l. bond_order (graph_of m) j l) k j (drop (k + 1) w.parents.items))
-    ∙ ap (λ (x : ℕ). before_atom (λ j l. bond_order (graph_of m) j l) k x (drop (k + 1) w.parents.items)) parent.is
+    ∙ ap (λ (b : Bool). if_not (suc j == k) Leave ++ (if_not (not b) Enter ++ mark_tokens (bond_symbol (graph_of m) j k))) is_later'
+    ∙ sym (before_child (λ j l. bond_symbol (graph_of m) j l) k j (drop (k + 1) w.parents.items))
+    ∙ ap (λ (x : ℕ). before_atom (λ j l. bond_symbol (graph_of m) j l) k x (drop (k + 1) w.parents.items)) parent.is

@@ -1,16 +1,24 @@
 -- Each atom has the same sum of orders as the atom that is read at its place.
+use Rattle.std.specs.Prelude.{Some}
+use Rattle.std.specs.Prelude.{None}
+use Rattle.std.specs.Prelude.{Option}
 use Rattle.std.proofs.Common.{length, ◌≡◌, ℕ, ◌+◌, ◌<◌, List, [], ◌∷◌, Bool, true, false, refl, ap, sym, ◌∙◌, arith}
 use Rattle.std.specs.Prelude.{◌==◌, ◌||◌, nat_lt, if◌then◌else◌}
 use Rattle.std.proofs.lemmas.Bool.{false≢true}
 use Rattle.std.proofs.lemmas.List.Sums.{sum_by-cons}
 use Rattle.smi_mean.specs.Order.{Graph, order_between, graph_of}
 use Rattle.mc_mol.specs.declared.parts.Bond.{Bond}
-use Rattle.smi_graph.specs.Bonds.{bonds_of}
+use Rattle.smi_graph.specs.Links.{bond_of, bonds_of, or_else, order_of}
+use Rattle.smi_graph.specs.Bonds.{text_bonds}
+use Rattle.smi_graph.specs.declared.text_bond.TextBond.{TextBond}
+use Rattle.smi_lex.specs.declared.token.BondMark.{BondMark}
+use Rattle.std.specs.Prelude.{map}
 use Rattle.smi_mean.specs.RingNumbers.{onto_all}
 use Rattle.mc_mol.specs.Molecule.{Molecule, joins, are_joined, touches, bond_sum}
 use Rattle.mc_mol.specs.WellFormed.{IsMolecule}
-use Rattle.smi_mean.specs.Written.{at, bond_order}
-use Rattle.smi_write.proofs.Orders.{Ordered, as_said}
+use Rattle.smi_mean.specs.Written.{at, bond_symbol}
+use Rattle.smi_write.specs.Structure.{SayOrders}
+use Rattle.smi_write.proofs.Symbols.{HasSymbols}
 use Rattle.smi_write.proofs.Simple.{Simple, simple_of, said_between, or_comm, joins_swap, joins_each}
 use Rattle.smi_write.proofs.Least.{test_same, or_false, not_true}
 use Rattle.smi_write.proofs.Sums.{bonds_sum}
@@ -39,6 +47,11 @@ fits n (b ∷ bs) s =
     let own = joins_own b in
     let own' : joins b b.second.0 b.first.0 ≡ true = joins_swap b b.second.0 b.first.0 ∙ own in
     ((rw own refl, rw own' refl), fits_more b bs bs s.1.0 (fits n bs s.1.1))
+
+-- each bond has this order
+abbrev pub Ordered : (ℕ → ℕ → ℕ) → List Bond → Type 0
+Ordered v [] = Unit {0}
+Ordered v (b ∷ bs) = (b.order ≡ v b.first.0 b.second.0) × Ordered v bs
 
 -- the weight of a pair for the sum at place k
 abbrev pub weight : (ℕ → ℕ → ℕ) → ℕ → ℕ → ℕ → ℕ
@@ -75,24 +88,36 @@ placed_weights n k all (b ∷ bs) at_ pl i below s f =
     let there : (if touches b (at_ k) then b.order else 0) ≡ (if pl b.first.0 == k || pl b.second.0 == k then b.order else 0) = rw (t1, t2) refl in
     ap (λ (z : ℕ). z + bonds_sum (weight v k) (placed pl bs)) (here ∙ sym there) ∙ ap (λ (z : ℕ). (if touches b (at_ k) then b.order else 0) + z) rest ∙ sym (sum_more (at_ k) b bs)
 
-ordered_same : (f h : ℕ → ℕ → ℕ) (bs : List Bond) → ((j l : ℕ) → f j l ≡ h j l) → Ordered f bs → Ordered h bs
-ordered_same f h [] same o = tt
-ordered_same f h (b ∷ bs) same o = (o.0 ∙ same b.first.0 b.second.0, ordered_same f h bs same o.1)
+-- the order of the bond between the atoms at these places
+abbrev pub order_at : Molecule → ℕ → ℕ → ℕ
+order_at m j l = order_between m.bonds (at (graph_of m) j) (at (graph_of m) l)
+
+one_symbol : (o c : Option BondMark) → c ≡ None → order_of (or_else o c) ≡ order_of o
+one_symbol None None alone = refl
+one_symbol None (Some mark) alone = cc
+one_symbol (Some o) c alone = refl
+
+orders_said : (m : Molecule) (v : ℕ → ℕ → Option BondMark) (bs : List TextBond) → SayOrders m v → HasSymbols v bs → Ordered (order_at m) (map bond_of bs)
+orders_said m v [] say has = tt
+orders_said m v (b ∷ bs) say has =
+    (one_symbol b.opening b.closing has.0.1 ∙ ap order_of has.0.0 ∙ say b.first.0 b.second.0, orders_said m v bs say has.1)
 
 -- each bond that is read has the order of its atoms' bond
-pub read_orders : (m : Molecule) → IsMolecule m → Ordered (λ j l. bond_order (graph_of m) j l) (bonds_of (onto_all (graph_roles (graph_of m)) []))
-read_orders m is =
-    let g : Graph = graph_of m in
-    let read = is_read g in
-    ordered_same (as_said (λ j l. bond_order g j l)) (λ j l. bond_order g j l) (bonds_of (onto_all (graph_roles g) []))
-    (λ j l. said_between (length m.atoms) m.bonds (at g j) (at g l) is.bonds) read.orders
+pub read_orders : (m : Molecule) (v : ℕ → ℕ → Option BondMark) → SayOrders m v → Ordered (order_at m) (bonds_of (onto_all (graph_roles (graph_of m) v) []))
+read_orders m v say =
+    let read = is_read (graph_of m) v in
+    orders_said m v (text_bonds (onto_all (graph_roles (graph_of m) v) [])) say read.symbols
+
+-- the symbols of the written form say the orders
+pub symbols_say : (m : Molecule) → IsMolecule m → SayOrders m (λ j l. bond_symbol (graph_of m) j l)
+symbols_say m is j l = said_between (length m.atoms) m.bonds (at (graph_of m) j) (at (graph_of m) l) is.bonds
 
 -- The atom that is read at place k has the sum of orders of the atom written there: so it has the same hydrogens.
-pub read_bond_sum : (m : Molecule) (k : ℕ) → IsMolecule m → k < length m.atoms → bond_sum (bonds_of (onto_all (graph_roles (graph_of m)) [])) k ≡ bond_sum m.bonds (at (graph_of m) k)
-read_bond_sum m k is below =
+pub read_bond_sum : (m : Molecule) (v : ℕ → ℕ → Option BondMark) (k : ℕ) → IsMolecule m → SayOrders m v → k < length m.atoms
+    → bond_sum (bonds_of (onto_all (graph_roles (graph_of m) v) [])) k ≡ bond_sum m.bonds (at (graph_of m) k)
+read_bond_sum m v k is say below =
     let g : Graph = graph_of m in
-    let v : ℕ → ℕ → ℕ = λ j l. bond_order g j l in
     let s : Simple (length m.atoms) m.bonds = simple_of (length m.atoms) m.bonds is.bonds is.once in
-    sym (read_weights v k (bonds_of (onto_all (graph_roles g) [])) (read_orders m is))
-    ∙ read_sum m (weight v k) s
+    sym (read_weights (order_at m) k (bonds_of (onto_all (graph_roles g v) [])) (read_orders m v say))
+    ∙ read_sum m v (weight (order_at m) k) s
     ∙ placed_weights (length m.atoms) k m.bonds m.bonds (λ j. at g j) (λ u. place_of g u) (inverse g) below s (fits (length m.atoms) m.bonds s)

@@ -28,7 +28,7 @@ depth_keep (Some c) k d same h = sym (same c) ∙ h
 -- the depth at the end is at least that before, less the level that may be lost
 floor : (rest before : List Role) (d l e : ℕ) → depth before ≡ Some d → stays_open l rest ≡ true → depth (reverse_aux rest before) ≡ Some e → d ≤ e + l
 floor [] before d l e deep stays end = let s : d ≡ e = some_same d e (sym deep ∙ end) in omega arith
-floor (Atom ∷ rest) before d l e deep stays end = floor rest (Atom ∷ before) d l e (ap (λ (o : Option ℕ). depth_behind o Atom) deep) stays end
+floor (Atom lower ∷ rest) before d l e deep stays end = floor rest (Atom lower ∷ before) d l e (ap (λ (o : Option ℕ). depth_behind o (Atom lower)) deep) stays end
 floor (Bond mark ∷ rest) before d l e deep stays end = floor rest (Bond mark ∷ before) d l e (ap (λ (o : Option ℕ). depth_behind o (Bond mark)) deep) stays end
 floor (Ring number ∷ rest) before d l e deep stays end = floor rest (Ring number ∷ before) d l e (ap (λ (o : Option ℕ). depth_behind o (Ring number)) deep) stays end
 floor (Dot ∷ rest) before d l e deep stays end = floor rest (Dot ∷ before) d l e (ap (λ (o : Option ℕ). depth_behind o Dot) deep) stays end
@@ -45,7 +45,7 @@ reverse_split : (ks : List Role) (i : ℕ) → reverse ks ≡ reverse_aux (drop 
 reverse_split ks i = ap reverse (sym (take-append-drop i ks)) ∙ reverse_aux_append (take i ks) (drop i ks) []
 
 enter_is : (k : Role) → is_enter (Some k) ≡ true → k ≡ Enter
-enter_is Atom h = absurd (false≢true h)
+enter_is (Atom lower) h = absurd (false≢true h)
 enter_is (Bond mark) h = absurd (false≢true h)
 enter_is (Ring number) h = absurd (false≢true h)
 enter_is Enter h = refl
@@ -54,7 +54,7 @@ enter_is Dot h = absurd (false≢true h)
 
 depth_front : (rest before : List Role) (e : ℕ) → depth (reverse_aux rest before) ≡ Some e → (d : ℕ) × (depth before ≡ Some d)
 depth_front [] before e h = (e, h)
-depth_front (Atom ∷ rest) before e h = let (d, is) = depth_front rest (Atom ∷ before) e h in (d, depth_keep (depth before) Atom d (λ c. refl) is)
+depth_front (Atom lower ∷ rest) before e h = let (d, is) = depth_front rest (Atom lower ∷ before) e h in (d, depth_keep (depth before) (Atom lower) d (λ c. refl) is)
 depth_front (Bond mark ∷ rest) before e h = let (d, is) = depth_front rest (Bond mark ∷ before) e h in (d, depth_keep (depth before) (Bond mark) d (λ c. refl) is)
 depth_front (Ring number ∷ rest) before e h = let (d, is) = depth_front rest (Ring number ∷ before) e h in (d, depth_keep (depth before) (Ring number) d (λ c. refl) is)
 depth_front (Dot ∷ rest) before e h = let (d, is) = depth_front rest (Dot ∷ before) e h in (d, depth_keep (depth before) Dot d (λ c. refl) is)

@@ -1,4 +1,6 @@
 -- How often an atom pair stands among open ring numbers and among bonds.
+use Rattle.std.specs.Prelude.{Option}
+use Rattle.smi_lex.specs.declared.token.BondMark.{BondMark}
 use Rattle.std.proofs.Common.{◌≡◌, ◌≢◌, ℕ, zero, suc, ◌+◌, ◌≤◌, ◌<◌, List, [], ◌∷◌, ◌++◌, Bool, true, false, refl, ap, sym, ◌∙◌, subst, inl, inr, arith}
 use Rattle.std.specs.Prelude.{◌==◌, ◌&&◌, nat_le, nat_lt, if◌then◌else◌}
 use Rattle.std.proofs.lemmas.Bool.{cases_eq, cases_lt}
@@ -73,11 +75,11 @@ sorted_count : (j : ℕ) (ps : List Pair) → opener_count j (sorted ps) ≡ ope
 sorted_count j [] = refl
 sorted_count j (p ∷ ps) = insert_count j p (sorted ps) ∙ ap (λ (x : ℕ). bit (p.opener == j) + x) (sorted_count j ps)
 
-opened_here : (v : ℕ → ℕ → ℕ) (k l : ℕ) (used : List Pair) (ls : List ℕ) → pair_count k l (opened v used k ls) ≡ occurs l ls
+opened_here : (v : ℕ → ℕ → Option BondMark) (k l : ℕ) (used : List Pair) (ls : List ℕ) → pair_count k l (opened v used k ls) ≡ occurs l ls
 opened_here v k l used [] = refl
 opened_here v k l used (x ∷ ls) = rw (test_same k) (ap (λ (y : ℕ). bit (x == l) + y) (opened_here v k l (new_pair v used k x ∷ used) ls))
 
-opened_other : (v : ℕ → ℕ → ℕ) (j k l : ℕ) (used : List Pair) (ls : List ℕ) → k ≢ j → pair_count j l (opened v used k ls) ≡ 0
+opened_other : (v : ℕ → ℕ → Option BondMark) (j k l : ℕ) (used : List Pair) (ls : List ℕ) → k ≢ j → pair_count j l (opened v used k ls) ≡ 0
 opened_other v j k l used [] ne = refl
 opened_other v j k l used (x ∷ ls) ne = rw (test_other k j ne) (let h = opened_other v j k l (new_pair v used k x ∷ used) ls ne in omega arith)
 
@@ -113,7 +115,7 @@ occurs_passing l p (suc n) less = occurs_append l (passing p n) (if p n then n �
 
 -- Which ring numbers are open before atom k
 
-open_later : (v : ℕ → ℕ → ℕ) (r : ℕ → ℕ → Bool) (n j l k : ℕ) → k ≤ j → pair_count j l (active v r n k) ≡ 0
+open_later : (v : ℕ → ℕ → Option BondMark) (r : ℕ → ℕ → Bool) (n j l k : ℕ) → k ≤ j → pair_count j l (active v r n k) ≡ 0
 open_later v r n j l zero le = refl
 open_later v r n j l (suc k) le =
     let o = opened_other v j k l (active v r n k) (partners r n k) (omega arith) in
@@ -123,7 +125,7 @@ open_later v r n j l (suc k) le =
       | inr ne ↦ let z = kept_other j l k (active v r n k) ne in omega arith
     ]
 
-pub open_is : (v : ℕ → ℕ → ℕ) (r : ℕ → ℕ → Bool) (n j l k : ℕ) → j < k → k ≤ l → l < n → pair_count j l (active v r n k) ≡ bit (r j l)
+pub open_is : (v : ℕ → ℕ → Option BondMark) (r : ℕ → ℕ → Bool) (n j l k : ℕ) → j < k → k ≤ l → l < n → pair_count j l (active v r n k) ≡ bit (r j l)
 open_is v r n j l zero less le below = absurd (omega arith)
 open_is v r n j l (suc k) less le below =
     let z = kept_other j l k (active v r n k) (omega arith) in
@@ -140,10 +142,10 @@ open_is v r n j l (suc k) less le below =
     ]
 
 -- how many bonds from j the ring numbers at atom k complete
-pub closing_count : (v : ℕ → ℕ → ℕ) (r : ℕ → ℕ → Bool) (n j k : ℕ) → j < k → k < n → opener_count j (closing v r n k) ≡ bit (r j k)
+pub closing_count : (v : ℕ → ℕ → Option BondMark) (r : ℕ → ℕ → Bool) (n j k : ℕ) → j < k → k < n → opener_count j (closing v r n k) ≡ bit (r j k)
 closing_count v r n j k less below = sorted_count j (ending k (active v r n k)) ∙ ending_count j k (active v r n k) ∙ open_is v r n j k k less (omega arith) below
 
-pub closing_none : (v : ℕ → ℕ → ℕ) (r : ℕ → ℕ → Bool) (n j k : ℕ) → k ≤ j → opener_count j (closing v r n k) ≡ 0
+pub closing_none : (v : ℕ → ℕ → Option BondMark) (r : ℕ → ℕ → Bool) (n j k : ℕ) → k ≤ j → opener_count j (closing v r n k) ≡ 0
 closing_none v r n j k le = sorted_count j (ending k (active v r n k)) ∙ ending_count j k (active v r n k) ∙ open_later v r n j k k le
 
 -- Nothing is open behind the last atom
@@ -163,7 +165,7 @@ abbrev pub Between : ℕ → ℕ → List ℕ → Type 0
 Between k n [] = Unit {0}
 Between k n (x ∷ xs) = ((k ≤ x) × (x < n)) × Between k n xs
 
-within_opened : (v : ℕ → ℕ → ℕ) (k n : ℕ) (used act : List Pair) (ls : List ℕ) → Between (suc k) n ls → Within (suc k) n act → Within (suc k) n (onto_all (opened v used k ls) act)
+within_opened : (v : ℕ → ℕ → Option BondMark) (k n : ℕ) (used act : List Pair) (ls : List ℕ) → Between (suc k) n ls → Within (suc k) n act → Within (suc k) n (onto_all (opened v used k ls) act)
 within_opened v k n used act [] b h = h
 within_opened v k n used act (l ∷ ls) b h =
     within_opened v k n (new_pair v used k l ∷ used) (new_pair v used k l ∷ act) ls b.1 (b.0, h)
@@ -189,13 +191,13 @@ less_of k v b h = elim (cases_lt k v) [
     false_true : false ≡ true → ⊥
     false_true h = cc
 
-pub active_within : (v : ℕ → ℕ → ℕ) (r : ℕ → ℕ → Bool) (n k : ℕ) → Within k n (active v r n k)
+pub active_within : (v : ℕ → ℕ → Option BondMark) (r : ℕ → ℕ → Bool) (n k : ℕ) → Within k n (active v r n k)
 active_within v r n zero = tt
 active_within v r n (suc k) = within_opened v k n (active v r n k) (kept k (active v r n k)) (partners r n k)
     (between_passing (suc k) n (λ l. nat_lt k l && r k l) n (omega arith) (λ v h. less_of k v (r k v) h))
     (within_kept k n (active v r n k) (active_within v r n k))
 
-pub active_end : (v : ℕ → ℕ → ℕ) (r : ℕ → ℕ → Bool) (n : ℕ) → active v r n n ≡ []
+pub active_end : (v : ℕ → ℕ → Option BondMark) (r : ℕ → ℕ → Bool) (n : ℕ) → active v r n n ≡ []
 active_end v r n = by_list (active v r n n) (active_within v r n n)
   where
     by_list : (ps : List Pair) → Within n n ps → ps ≡ []

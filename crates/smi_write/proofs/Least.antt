@@ -3,7 +3,7 @@ use Rattle.std.proofs.Common.{◌≡◌, ◌≢◌, ℕ, zero, suc, ◌<◌, Boo
 use Rattle.std.specs.Prelude.{◌==◌, ◌&&◌, ◌||◌, not, ◌⊎◌}
 use Rattle.std.proofs.lemmas.Bool.{cases_lt, false≢true}
 use Rattle.std.proofs.lemmas.Bool.Decides.{nat_tests}
-use Rattle.smi_graph.specs.Bonds.{or_else}
+use Rattle.smi_graph.specs.Links.{or_else}
 use Rattle.smi_mean.specs.Order.{least, some_if}
 
 pub test_other : (p q : ℕ) → p ≢ q → (p == q) ≡ false

@@ -12,7 +12,7 @@ mod RingSteps
 mod TextRead
 mod Hits
 mod BondCounts
-mod Orders
+mod Symbols
 mod Whole
 mod Sums
 mod Simple

@@ -8,6 +8,7 @@ use Rattle.std.specs.Prelude.{nat_le, flat_map, codes, ℤ, pos, negsuc, nat_abs
 use Rattle.std.proofs.lemmas.Bool.Decides.{nat_tests}
 use Rattle.std.proofs.lemmas.Fmt.{decimal_is_IsNumeral}
 use Rattle.std.proofs.lemmas.Str.Parse.{digit_from_value}
+use Rattle.std.proofs.lemmas.Bool.{and_parts}
 use Rattle.mc_elements.specs.declared.element.Element.{Element}
 use Rattle.mc_elements.specs.Elements.{is_symbol_text, symbol}
 use Rattle.mc_elements.proofs.Symbols.{is_symbol_text-symbol}
@@ -16,7 +17,6 @@ use Rattle.smi_lex.specs.declared.token.BondMark.TheVariants.{Single, Double, Tr
 use Rattle.smi_lex.specs.declared.token.TokenKind.{TokenKind}
 use Rattle.smi_lex.specs.declared.token.TokenKind.TheVariants.{Bare, Bracket, Bond, Ring, Enter, Leave, Dot}
 use Rattle.smi_lex.specs.Grammar.{mark_text}
-use Rattle.smi_lex.proofs.Sound.{both_true}
 use Rattle.mc_mol.specs.Molecule.{Molecule}
 use Rattle.mc_mol.specs.WellFormed.{IsMolecule}
 use Rattle.smi_mean.specs.Sound.{IsSound}
@@ -31,7 +31,7 @@ is_plain text = list_all (λ byte. nat_le 33 byte) text
 
 join : (a b : List ℕ) → is_plain a ≡ true → is_plain b ≡ true → is_plain (a ++ b) ≡ true
 join [] b h k = k
-join (x ∷ a) b h k = let both = both_true (nat_le 33 x) (is_plain a) h in rw (both.0, join a b both.1 k) refl
+join (x ∷ a) b h k = let both = and_parts (nat_le 33 x) (is_plain a) h in rw (both.0, join a b both.1 k) refl
 
 letter : (b : ℕ) → 33 ≤ b → nat_le 33 b ≡ true
 letter b low = grind (arith, nat_tests)
@@ -45,7 +45,7 @@ lower b is = grind (arith, nat_tests)
 symbol_text : (text : List ℕ) → is_symbol_text text ≡ true → is_plain text ≡ true
 symbol_text [] is = cc
 symbol_text (a ∷ []) is = rw (upper a is) refl
-symbol_text (a ∷ b ∷ []) is = let both = both_true (is_ascii_uppercase a) (is_ascii_lowercase b) is in rw (upper a both.0, lower b both.1) refl
+symbol_text (a ∷ b ∷ []) is = let both = and_parts (is_ascii_uppercase a) (is_ascii_lowercase b) is in rw (upper a both.0, lower b both.1) refl
 symbol_text (a ∷ b ∷ c ∷ cs) is = cc
 
 symbol_plain : (e : Element) → is_plain (symbol e) ≡ true

@@ -11,10 +11,10 @@ use Rattle.mc_mol.specs.declared.parts.Bond as bond
 use Rattle.mc_mol.specs.Molecule.{Molecule, bond_sum}
 use Rattle.mc_mol.specs.WellFormed.{IsMolecule}
 use Rattle.smi_lex.specs.Tokens.{unread}
-use Rattle.smi_graph.specs.declared.skeleton.SkelAtom.{SkelAtom}
+use Rattle.smi_graph.specs.declared.skel_atom.SkelAtom.{SkelAtom}
 use Rattle.smi_graph.specs.Order.{unclosed_at}
 use Rattle.smi_graph.specs.RingRules.{clash_at, pair_again_at}
-use Rattle.smi_graph.specs.Rules.{atoms_in, bonds_in, roles_in, fails, is_heavy, is_high_class, is_overcharged}
+use Rattle.smi_graph.specs.Rules.{atoms_in, bonds_in, roles_in, fails, has_high_isotope, has_high_class, has_high_charge}
 use Rattle.smi_graph.proofs.TokenFaults.{unclosed_past, clash_past, pair_past}
 use Rattle.smi_mean.specs.Meaning.{atoms_with, meaning, meant_atom}
 use Rattle.smi_mean.specs.Order.{graph_of}
@@ -106,11 +106,11 @@ none_stands m text is sound read LimitAtoms place h = above_limit (length (atoms
 none_stands m text is sound read LimitBonds place h = above_limit (length (bonds_in text)) (length m.bonds) 999 read.reads.count is.few_bonds h.1
 none_stands m text is sound read LimitRings place h = above_limit _ _ 99 refl read.few_rings h.1
 none_stands m text is sound read LimitIsotope place (k, there, bad) =
-    not_both _ (no_atom_fails m text sound read is_heavy (λ atom sum limits. not_above atom.isotope 999 limits.isotope) k) bad
+    not_both _ (no_atom_fails m text sound read has_high_isotope (λ atom sum limits. not_above atom.isotope 999 limits.isotope) k) bad
 none_stands m text is sound read LimitClass place (k, there, bad) =
-    not_both _ (no_atom_fails m text sound read is_high_class (λ atom sum limits. not_above atom.class 999 limits.class) k) bad
+    not_both _ (no_atom_fails m text sound read has_high_class (λ atom sum limits. not_above atom.class 999 limits.class) k) bad
 none_stands m text is sound read LimitCharge place (k, there, bad) =
-    not_both _ (no_atom_fails m text sound read is_overcharged (λ atom sum limits. not_above (nat_abs atom.charge) 15 limits.charge) k) bad
+    not_both _ (no_atom_fails m text sound read has_high_charge (λ atom sum limits. not_above (nat_abs atom.charge) 15 limits.charge) k) bad
 none_stands m text is sound read LimitValence place (k, there, bad) = not_both _ (no_valence m text sound read k) bad
 none_stands m text is sound read HydrogenOnHydrogen place (k, there, bad) = not_both _ (no_hydrogen m text sound read k) bad
 none_stands m text is sound read _ place h = h

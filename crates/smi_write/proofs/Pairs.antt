@@ -5,13 +5,12 @@ use Rattle.std.proofs.lemmas.Bool.{cases_eq, false≢true}
 use Rattle.std.proofs.lemmas.List.{length-map}
 use Rattle.smi_mean.specs.Order.{least}
 use Rattle.smi_mean.specs.RingNumbers.{Pair, has, value, numbers, free_number, ending, kept, insert, sorted}
-use Rattle.smi_mean.specs.Written.{symbol_of}
 use Rattle.smi_write.proofs.Least.{test_other, test_same, or_false, not_is, not_false, least_all, least_some}
 use Rattle.smi_write.proofs.RingLaw.{Opening}
 use Rattle.smi_write.proofs.Counting.{count, count_none, count_all, count_more}
 
 abbrev pub as_opening : Pair → Opening
-as_opening p = record { atom = p.opener; mark = symbol_of p.order }
+as_opening p = record { atom = p.opener; mark = p.symbol }
 
 -- how number m was opened
 abbrev pub opener : ℕ → List Pair → Option Opening

@@ -11,7 +11,7 @@ use Rattle.mc_mol.specs.Molecule.{Molecule, are_joined}
 use Rattle.mc_mol.specs.HalfEdges.{half_edges, AllHaveTwins}
 use Rattle.mc_mol.proofs.Lists.{All-head, All-tail}
 use Rattle.mc_mol.proofs.Halves.{are_joined-half_edges}
-use Rattle.smi_graph.specs.Bonds.{or_else}
+use Rattle.smi_graph.specs.Links.{or_else}
 use Rattle.smi_mean.specs.Order.{Graph, graph_of, least, some_if, order, place, parents, atoms}
 use Rattle.smi_mean.specs.RingNumbers.{passing}
 use Rattle.smi_mean.specs.Written.{at, has_ring}

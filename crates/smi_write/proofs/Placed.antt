@@ -1,11 +1,13 @@
 -- A molecule's bonds, with places for atoms, are counted as those that are read.
+use Rattle.std.specs.Prelude.{Option}
+use Rattle.smi_lex.specs.declared.token.BondMark.{BondMark}
 use Rattle.std.proofs.Common.{◌≡◌, ◌≢◌, ℕ, zero, suc, ◌+◌, ◌<◌, List, [], ◌∷◌, length, Bool, true, false, refl, ap, sym, ◌∙◌, inl, inr, arith}
 use Rattle.std.specs.Prelude.{◌==◌, ◌&&◌, ◌||◌, nat_lt}
 use Rattle.std.proofs.lemmas.Bool.{cases_eq, cases_lt, false≢true}
 use Rattle.std.proofs.lemmas.Bool.Decides.{nat_tests}
 use Rattle.smi_mean.specs.Order.{Graph, graph_of, order, place}
 use Rattle.mc_mol.specs.declared.parts.Bond.{Bond}
-use Rattle.smi_graph.specs.Bonds.{bond_between, bonds_of}
+use Rattle.smi_graph.specs.Links.{bond_between, bonds_of}
 use Rattle.smi_mean.specs.RingNumbers.{onto_all}
 use Rattle.smi_write.proofs.Hits.{bit}
 use Rattle.smi_write.proofs.BondCounts.{hit, bond_count}
@@ -139,13 +141,13 @@ inverse g =
     }
 
 -- Whatever is summed over the bonds that are read is the sum over the molecule's bonds by their places.
-pub read_sum : (m : Molecule) (w : ℕ → ℕ → ℕ) → Simple (length m.atoms) m.bonds
-    → bonds_sum w (bonds_of (onto_all (graph_roles (graph_of m)) [])) ≡ bonds_sum w (placed (λ u. place_of (graph_of m) u) m.bonds)
-read_sum m w s =
+pub read_sum : (m : Molecule) (v : ℕ → ℕ → Option BondMark) (w : ℕ → ℕ → ℕ) → Simple (length m.atoms) m.bonds
+    → bonds_sum w (bonds_of (onto_all (graph_roles (graph_of m) v) [])) ≡ bonds_sum w (placed (λ u. place_of (graph_of m) u) m.bonds)
+read_sum m v w s =
     let g : Graph = graph_of m in
-    let read = is_read g in
-    sums_same w g.count (bonds_of (onto_all (graph_roles g) [])) (placed (λ u. place_of g u) m.bonds)
-    (in_range g.count (bonds_of (onto_all (graph_roles g) [])) read.others)
+    let read = is_read g v in
+    sums_same w g.count (bonds_of (onto_all (graph_roles g v) [])) (placed (λ u. place_of g u) m.bonds)
+    (in_range g.count (bonds_of (onto_all (graph_roles g v) [])) read.others)
     (placed_range g.count (λ j. at g j) (λ u. place_of g u) m.bonds (inverse g) s)
     (λ j l less below. read.bonds j l less below ∙ sym (placed_count g.count (λ j. at g j) (λ u. place_of g u) m.bonds j l (inverse g) s less below))
 
@@ -154,7 +156,7 @@ placed_length pl [] = refl
 placed_length pl (b ∷ bs) = ap suc (placed_length pl bs)
 
 -- as many bonds are read as there are
-pub read_length : (m : Molecule) → Simple (length m.atoms) m.bonds → length (bonds_of (onto_all (graph_roles (graph_of m)) [])) ≡ length m.bonds
-read_length m s =
-    sym (length_is (bonds_of (onto_all (graph_roles (graph_of m)) []))) ∙ read_sum m (λ j l. 1) s ∙ length_is (placed (λ u. place_of (graph_of m) u) m.bonds)
+pub read_length : (m : Molecule) (v : ℕ → ℕ → Option BondMark) → Simple (length m.atoms) m.bonds → length (bonds_of (onto_all (graph_roles (graph_of m) v) [])) ≡ length m.bonds
+read_length m v s =
+    sym (length_is (bonds_of (onto_all (graph_roles (graph_of m) v) []))) ∙ read_sum m v (λ j l. 1) s ∙ length_is (placed (λ u. place_of (graph_of m) u) m.bonds)
     ∙ placed_length (λ u. place_of (graph_of m) u) m.bonds

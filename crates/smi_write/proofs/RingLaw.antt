@@ -1,12 +1,12 @@
 -- A ring number turns what is open under it: an equal number opens where none is open, and closes the one that is.
-use Rattle.std.proofs.Common.{◌≡◌, ◌∙◌, ℕ, ◌-◌, List, [], ◌∷◌, Option, Some, None, refl, ap}
-use Rattle.mc_mol.specs.declared.parts.Bond as bond
+use Rattle.std.proofs.Common.{◌≡◌, ◌∙◌, ℕ, ◌-◌, List, ◌∷◌, Option, Some, None, refl, ap}
+use Rattle.smi_graph.specs.declared.text_bond.TextBond.{TextBond}
 use Rattle.smi_lex.specs.declared.token.BondMark.{BondMark}
-use Rattle.smi_graph.specs.declared.ring_end.RingEnd.{RingEnd}
+use Rattle.smi_graph.specs.declared.ring_table.RingEnd.{RingEnd}
 use Rattle.smi_graph.specs.declared.role.Role.{Role}
 use Rattle.smi_graph.specs.declared.role.Role.TheVariants.{Ring}
-use Rattle.smi_graph.specs.Bonds.{atom_count, mark_of, order_of, or_else, ring_end, open_end, bond_between, ring_bond, bonds_at}
-use Rattle.smi_graph.specs.Reading.{turned as ends_turned}
+use Rattle.smi_graph.specs.Bonds.{atom_count, mark_of, ring_end, open_end, text_bond, ring_bond, completed}
+use Rattle.smi_graph.specs.RingTables.{turned as ends_turned}
 use Rattle.smi_graph.proofs.RingEnds.{open_end_same, open_end_other}
 
 -- an open ring number: the atom beside it, and the symbol before it
@@ -43,11 +43,11 @@ pub open_other : (n m : ℕ) (before : List Role) → (n ≡ m → ⊥) → open
 open_other n m before ne = ap opening_of (open_end_other n m before ne)
 
 -- the bond to an open number
-abbrev pub bond_to : Option Opening → Opening → List bond.Bond
-bond_to None here = []
-bond_to (Some there) here = bond_between there.atom here.atom (order_of (or_else there.mark here.mark)) ∷ []
+abbrev pub bond_to : Option Opening → Opening → Option TextBond
+bond_to None here = None
+bond_to (Some there) here = Some (text_bond there.atom here.atom there.mark here.mark)
 
-pub ring_bond_is : (n : ℕ) (before : List Role) → bonds_at before (Ring n) ≡ bond_to (open_ring n before) (end_here before)
+pub ring_bond_is : (n : ℕ) (before : List Role) → completed before (Ring n) ≡ bond_to (open_ring n before) (end_here before)
 ring_bond_is n before = by_end (open_end n before)
   where
     by_end : (o : Option RingEnd) → ring_bond o (ring_end before) ≡ bond_to (opening_of o) (end_here before)

@@ -2,18 +2,20 @@
 use Rattle.std.proofs.Common.{◌≡◌, ℕ, zero, suc, ◌-◌, List, [], ◌∷◌, ◌++◌, Bool, false, Option, Some, None, refl, ap, sym, ◌∙◌, subst, inl, inr, arith}
 use Rattle.std.proofs.lemmas.Bool.{cases_eq}
 use Rattle.std.proofs.lemmas.List.{append-nil, append_assoc}
-use Rattle.mc_mol.specs.declared.parts.Bond as bond
+use Rattle.smi_graph.specs.declared.text_bond.TextBond.{TextBond}
+use Rattle.std.specs.Prelude.{option_to_list}
 use Rattle.smi_lex.specs.declared.token.BondMark.{BondMark}
-use Rattle.smi_graph.specs.declared.ring_end.RingEnd.{RingEnd}
+use Rattle.smi_graph.specs.declared.ring_table.RingEnd.{RingEnd}
 use Rattle.smi_graph.specs.declared.role.Role.{Role}
 use Rattle.smi_graph.specs.declared.role.Role.TheVariants.{Ring}
-use Rattle.smi_graph.specs.Bonds.{atom_count, mark_of, order_of, or_else, ring_end, open_end, bond_between, bonds_of}
-use Rattle.smi_graph.specs.RingRules.{marks_clash, ends_clash, is_clash}
+use Rattle.smi_graph.specs.Bonds.{atom_count, mark_of, ring_end, open_end, text_bond, ring_bond, text_bonds}
+use Rattle.smi_graph.specs.Links.{marks_clash}
+use Rattle.smi_graph.specs.Links.{marks_clash}
+use Rattle.smi_graph.specs.RingRules.{some_clashes, is_clash}
 use Rattle.smi_mean.specs.RingNumbers.{Pair, free_number, new_pair, opened, ending, kept, partners, onto_all, active, closing, opening}
-use Rattle.smi_mean.specs.Written.{symbol_of}
 use Rattle.smi_write.proofs.Along.{Along}
 use Rattle.smi_write.proofs.RingLaw.{Opening, opening_of, open_ring, turned, end_here, open_turned, open_other, bond_to, ring_bond_is}
-use Rattle.smi_write.proofs.RoleText.{mark_roles, closed_roles, opened_roles, ring_roles, said, links}
+use Rattle.smi_write.proofs.RoleText.{mark_roles, closed_roles, opened_roles, ring_roles, links}
 use Rattle.smi_write.proofs.Pairs.{opener, as_opening, minus, Distinct, opener_here, opener_other, distinct_ending, distinct_kept, kept_none, kept_opener, ending_opener, sorted_opener, sorted_distinct, free_is}
 
 pub onto_append : {A : Type 0} → (xs ys acc : List A) → onto_all (xs ++ ys) acc ≡ onto_all ys (onto_all xs acc)
@@ -22,20 +24,16 @@ onto_append (x ∷ xs) ys acc = onto_append xs ys (x ∷ acc)
 
 -- Marks
 
-order_alone : (m : Option BondMark) → order_of (or_else m None) ≡ order_of m
-order_alone None = refl
-order_alone (Some o) = refl
-
 -- a symbol, or none, is read
 pub record Marked (o : Option BondMark) (before after : List Role) : Type 0 where
   pub counted : atom_count after ≡ atom_count before
   pub rings : (m : ℕ) → open_ring m after ≡ open_ring m before
-  pub bonds : bonds_of after ≡ bonds_of before
+  pub bonds : text_bonds after ≡ text_bonds before
   pub mark : mark_of after ≡ o
 
 pub mark_read : (o : Option BondMark) (before : List Role) → mark_of before ≡ None → Marked o before (onto_all (mark_roles o) before)
 mark_read None before none = record { counted = refl; rings = λ m. refl; bonds = refl; mark = none }
-mark_read (Some m) before none = record { counted = refl; rings = λ m. refl; bonds = append-nil (bonds_of before); mark = refl }
+mark_read (Some m) before none = record { counted = refl; rings = λ m. refl; bonds = append-nil (text_bonds before); mark = refl }
 
 -- what is open for the reader is what is open for the writer
 abbrev pub Agrees : List Role → List Pair → Type 0
@@ -84,19 +82,18 @@ close_all (p ∷ cs) before d known m =
     ]
 
 pub close_bonds : (cs : List Pair) (before : List Role) (k : ℕ) → atom_count before ≡ suc k → mark_of before ≡ None → Distinct cs → Known before cs
-    → bonds_of (onto_all (closed_roles cs) before) ≡ bonds_of before ++ links k cs
-close_bonds [] before k counted bare d known = sym (append-nil (bonds_of before))
+    → text_bonds (onto_all (closed_roles cs) before) ≡ text_bonds before ++ links k cs
+close_bonds [] before k counted bare d known = sym (append-nil (text_bonds before))
 close_bonds (p ∷ cs) before k counted bare d known =
     let here : open_ring p.number before ≡ Some (as_opening p) = known p.number (as_opening p) (opener_here p cs p.number refl) in
     let at : atom_count before - 1 ≡ k = omega arith in
     close_bonds cs (Ring p.number ∷ before) k counted refl d.1 (known_next p cs before d known)
-    ∙ ap (λ (x : List bond.Bond). x ++ links k cs) (ap (λ (x : List bond.Bond). bonds_of before ++ x)
+    ∙ ap (λ (x : List TextBond). x ++ links k cs) (ap (λ (o : Option TextBond). text_bonds before ++ option_to_list o)
     (ring_bond_is p.number before
     ∙ ap (λ (o : Option Opening). bond_to o (end_here before)) here
-    ∙ ap (λ (n : ℕ). bond_between p.opener n (order_of (or_else (symbol_of p.order) (mark_of before))) ∷ []) at
-    ∙ ap (λ (o : Option BondMark). bond_between p.opener k (order_of (or_else (symbol_of p.order) o)) ∷ []) bare
-    ∙ ap (λ (n : ℕ). bond_between p.opener k n ∷ []) (order_alone (symbol_of p.order))))
-    ∙ append_assoc (bonds_of before) (bond_between p.opener k (said p.order) ∷ []) (links k cs)
+    ∙ ap (λ (n : ℕ). Some (text_bond p.opener n p.symbol (mark_of before))) at
+    ∙ ap (λ (o : Option BondMark). Some (text_bond p.opener k p.symbol o)) bare))
+    ∙ append_assoc (text_bonds before) (text_bond p.opener k p.symbol None ∷ []) (links k cs)
 
 -- opening numbers
 
@@ -107,7 +104,7 @@ Covers used act = (m : ℕ) → opener m used ≡ None → opener m act ≡ None
 opens_next : (used act : List Pair) (before : List Role) → Agrees before act → Covers used act → open_ring (free_number used) before ≡ None
 opens_next used act before agrees covers = let free = free_is used in agrees (free_number used) ∙ covers (free_number used) free.free
 
-agrees_next : (p : Pair) (act : List Pair) (before : List Role) → atom_count before ≡ suc p.opener → mark_of before ≡ symbol_of p.order → Agrees before act → open_ring p.number before ≡ None
+agrees_next : (p : Pair) (act : List Pair) (before : List Role) → atom_count before ≡ suc p.opener → mark_of before ≡ p.symbol → Agrees before act → open_ring p.number before ≡ None
     → Agrees (Ring p.number ∷ before) (p ∷ act)
 agrees_next p act before counted mark agrees none m = elim (cases_eq p.number m) [
   | inl e ↦
@@ -127,35 +124,35 @@ covers_next p used act covers m h = elim (cases_eq p.number m) [
   | inr ne ↦ opener_other p act m ne ∙ covers m (sym (opener_other p used m ne) ∙ h)
 ]
 
-pub open_all : (v : ℕ → ℕ → ℕ) (ls : List ℕ) (used act : List Pair) (before : List Role) (k : ℕ) → atom_count before ≡ suc k → mark_of before ≡ None → Agrees before act → Covers used act
+pub open_all : (v : ℕ → ℕ → Option BondMark) (ls : List ℕ) (used act : List Pair) (before : List Role) (k : ℕ) → atom_count before ≡ suc k → mark_of before ≡ None → Agrees before act → Covers used act
     → Agrees (onto_all (opened_roles (opened v used k ls)) before) (onto_all (opened v used k ls) act)
 open_all v [] used act before k counted bare agrees covers = agrees
 open_all v (l ∷ ls) used act before k counted bare agrees covers =
     let p : Pair = new_pair v used k l in
-    let marked : List Role = onto_all (mark_roles (symbol_of p.order)) before in
-    let mk = mark_read (symbol_of p.order) before bare in
+    let marked : List Role = onto_all (mark_roles (p.symbol)) before in
+    let mk = mark_read (p.symbol) before bare in
     let agrees' : Agrees marked act = λ m. mk.rings m ∙ agrees m in
-    subst (λ (x : List Role). Agrees x (onto_all (opened v (p ∷ used) k ls) (p ∷ act))) (sym (onto_append (mark_roles (symbol_of p.order)) (Ring p.number ∷ opened_roles (opened v (p ∷ used) k ls)) before))
+    subst (λ (x : List Role). Agrees x (onto_all (opened v (p ∷ used) k ls) (p ∷ act))) (sym (onto_append (mark_roles (p.symbol)) (Ring p.number ∷ opened_roles (opened v (p ∷ used) k ls)) before))
     (open_all v ls (p ∷ used) (p ∷ act) (Ring p.number ∷ marked) k (mk.counted ∙ counted) refl
     (agrees_next p act marked (mk.counted ∙ counted) mk.mark agrees' (opens_next used act marked agrees' covers)) (covers_next p used act covers))
 
-pub open_bonds : (v : ℕ → ℕ → ℕ) (ls : List ℕ) (used act : List Pair) (before : List Role) (k : ℕ) → atom_count before ≡ suc k → mark_of before ≡ None → Agrees before act → Covers used act
-    → bonds_of (onto_all (opened_roles (opened v used k ls)) before) ≡ bonds_of before
+pub open_bonds : (v : ℕ → ℕ → Option BondMark) (ls : List ℕ) (used act : List Pair) (before : List Role) (k : ℕ) → atom_count before ≡ suc k → mark_of before ≡ None → Agrees before act → Covers used act
+    → text_bonds (onto_all (opened_roles (opened v used k ls)) before) ≡ text_bonds before
 open_bonds v [] used act before k counted bare agrees covers = refl
 open_bonds v (l ∷ ls) used act before k counted bare agrees covers =
     let p : Pair = new_pair v used k l in
-    let marked : List Role = onto_all (mark_roles (symbol_of p.order)) before in
-    let mk = mark_read (symbol_of p.order) before bare in
+    let marked : List Role = onto_all (mark_roles (p.symbol)) before in
+    let mk = mark_read (p.symbol) before bare in
     let agrees' : Agrees marked act = λ m. mk.rings m ∙ agrees m in
     let none = opens_next used act marked agrees' covers in
-    ap bonds_of (onto_append (mark_roles (symbol_of p.order)) (Ring p.number ∷ opened_roles (opened v (p ∷ used) k ls)) before)
+    ap text_bonds (onto_append (mark_roles (p.symbol)) (Ring p.number ∷ opened_roles (opened v (p ∷ used) k ls)) before)
     ∙ open_bonds v ls (p ∷ used) (p ∷ act) (Ring p.number ∷ marked) k (mk.counted ∙ counted) refl
     (agrees_next p act marked (mk.counted ∙ counted) mk.mark agrees' none) (covers_next p used act covers)
-    ∙ ap (λ (x : List bond.Bond). bonds_of marked ++ x) (ring_bond_is p.number marked ∙ ap (λ (o : Option Opening). bond_to o (end_here marked)) none)
-    ∙ append-nil (bonds_of marked)
+    ∙ ap (λ (o : Option TextBond). text_bonds marked ++ option_to_list o) (ring_bond_is p.number marked ∙ ap (λ (o : Option Opening). bond_to o (end_here marked)) none)
+    ∙ append-nil (text_bonds marked)
     ∙ mk.bonds
 
-pub open_distinct : (v : ℕ → ℕ → ℕ) (ls : List ℕ) (used act : List Pair) (k : ℕ) → Distinct act → Covers used act → Distinct (onto_all (opened v used k ls) act)
+pub open_distinct : (v : ℕ → ℕ → Option BondMark) (ls : List ℕ) (used act : List Pair) (k : ℕ) → Distinct act → Covers used act → Distinct (onto_all (opened v used k ls) act)
 open_distinct v [] used act k d covers = d
 open_distinct v (l ∷ ls) used act k d covers =
     let p : Pair = new_pair v used k l in
@@ -165,20 +162,20 @@ open_distinct v (l ∷ ls) used act k d covers =
 pub covers_kept : (k : ℕ) (ps : List Pair) → Covers ps (kept k ps)
 covers_kept k ps m h = kept_none k m ps h
 
-pub active_distinct : (v : ℕ → ℕ → ℕ) (r : ℕ → ℕ → Bool) (n k : ℕ) → Distinct (active v r n k)
+pub active_distinct : (v : ℕ → ℕ → Option BondMark) (r : ℕ → ℕ → Bool) (n k : ℕ) → Distinct (active v r n k)
 active_distinct v r n zero = tt
 active_distinct v r n (suc k) = open_distinct v (partners r n k) (active v r n k) (kept k (active v r n k)) k (distinct_kept k (active v r n k) (active_distinct v r n k)) (covers_kept k (active v r n k))
 
-known_closing : (v : ℕ → ℕ → ℕ) (r : ℕ → ℕ → Bool) (n k : ℕ) (before : List Role) → Agrees before (active v r n k) → Known before (closing v r n k)
+known_closing : (v : ℕ → ℕ → Option BondMark) (r : ℕ → ℕ → Bool) (n k : ℕ) (before : List Role) → Agrees before (active v r n k) → Known before (closing v r n k)
 known_closing v r n k before agrees m a is =
     let ps : List Pair = active v r n k in
     agrees m ∙ ending_opener k m a ps (active_distinct v r n k) (sym (sorted_opener (ending k ps) m (distinct_ending k ps (active_distinct v r n k))) ∙ is)
 
-closing_distinct : (v : ℕ → ℕ → ℕ) (r : ℕ → ℕ → Bool) (n k : ℕ) → Distinct (closing v r n k)
+closing_distinct : (v : ℕ → ℕ → Option BondMark) (r : ℕ → ℕ → Bool) (n k : ℕ) → Distinct (closing v r n k)
 closing_distinct v r n k = sorted_distinct (ending k (active v r n k)) (distinct_ending k (active v r n k) (active_distinct v r n k))
 
 -- behind the closing numbers
-agrees_closed : (v : ℕ → ℕ → ℕ) (r : ℕ → ℕ → Bool) (n k : ℕ) (before : List Role) → Agrees before (active v r n k) → Agrees (onto_all (closed_roles (closing v r n k)) before) (kept k (active v r n k))
+agrees_closed : (v : ℕ → ℕ → Option BondMark) (r : ℕ → ℕ → Bool) (n k : ℕ) (before : List Role) → Agrees before (active v r n k) → Agrees (onto_all (closed_roles (closing v r n k)) before) (kept k (active v r n k))
 agrees_closed v r n k before agrees m =
     let ps : List Pair = active v r n k in
     close_all (closing v r n k) before (closing_distinct v r n k) (known_closing v r n k before agrees) m
@@ -187,7 +184,7 @@ agrees_closed v r n k before agrees m =
     ∙ sym (kept_opener k m ps (active_distinct v r n k))
 
 -- behind the ring numbers of an atom
-pub rings_agree : (v : ℕ → ℕ → ℕ) (r : ℕ → ℕ → Bool) (n k : ℕ) (before : List Role) → atom_count before ≡ suc k → mark_of before ≡ None → Agrees before (active v r n k)
+pub rings_agree : (v : ℕ → ℕ → Option BondMark) (r : ℕ → ℕ → Bool) (n k : ℕ) (before : List Role) → atom_count before ≡ suc k → mark_of before ≡ None → Agrees before (active v r n k)
     → Agrees (onto_all (ring_roles v r n k) before) (active v r n (suc k))
 rings_agree v r n k before counted bare agrees =
     let ps : List Pair = active v r n k in
@@ -195,18 +192,18 @@ rings_agree v r n k before counted bare agrees =
     subst (λ (x : List Role). Agrees x (active v r n (suc k))) (sym (onto_append (closed_roles (closing v r n k)) (opened_roles (opening v r n k)) before))
     (open_all v (partners r n k) ps (kept k ps) middle k (closed_count (closing v r n k) before ∙ counted) (closed_mark (closing v r n k) before bare) (agrees_closed v r n k before agrees) (covers_kept k ps))
 
-pub rings_bonds : (v : ℕ → ℕ → ℕ) (r : ℕ → ℕ → Bool) (n k : ℕ) (before : List Role) → atom_count before ≡ suc k → mark_of before ≡ None → Agrees before (active v r n k)
-    → bonds_of (onto_all (ring_roles v r n k) before) ≡ bonds_of before ++ links k (closing v r n k)
+pub rings_bonds : (v : ℕ → ℕ → Option BondMark) (r : ℕ → ℕ → Bool) (n k : ℕ) (before : List Role) → atom_count before ≡ suc k → mark_of before ≡ None → Agrees before (active v r n k)
+    → text_bonds (onto_all (ring_roles v r n k) before) ≡ text_bonds before ++ links k (closing v r n k)
 rings_bonds v r n k before counted bare agrees =
     let ps : List Pair = active v r n k in
     let middle : List Role = onto_all (closed_roles (closing v r n k)) before in
-    ap bonds_of (onto_append (closed_roles (closing v r n k)) (opened_roles (opening v r n k)) before)
+    ap text_bonds (onto_append (closed_roles (closing v r n k)) (opened_roles (opening v r n k)) before)
     ∙ open_bonds v (partners r n k) ps (kept k ps) middle k (closed_count (closing v r n k) before ∙ counted) (closed_mark (closing v r n k) before bare) (agrees_closed v r n k before agrees) (covers_kept k ps)
     ∙ close_bonds (closing v r n k) before k counted bare (closing_distinct v r n k) (known_closing v r n k before agrees)
 
 -- Symbols
 
-unmarked_clash : (o : Option RingEnd) (here : RingEnd) → here.mark ≡ None → ends_clash o here ≡ false
+unmarked_clash : (o : Option RingEnd) (here : RingEnd) → here.mark ≡ None → some_clashes (ring_bond o here) ≡ false
 unmarked_clash None here bare = refl
 unmarked_clash (Some e) here bare = ap (marks_clash e.mark) bare ∙ one_mark e.mark
   where
@@ -214,7 +211,7 @@ unmarked_clash (Some e) here bare = ap (marks_clash e.mark) bare ∙ one_mark e.
     one_mark None = refl
     one_mark (Some mark) = refl
 
-fresh_clash : (o : Option RingEnd) (here : RingEnd) → opening_of o ≡ None → ends_clash o here ≡ false
+fresh_clash : (o : Option RingEnd) (here : RingEnd) → opening_of o ≡ None → some_clashes (ring_bond o here) ≡ false
 fresh_clash None here none = refl
 fresh_clash (Some e) here none = cc
 
@@ -226,21 +223,21 @@ mark_clash : (o : Option BondMark) (before : List Role) → Along is_clash befor
 mark_clash None before h = h
 mark_clash (Some m) before h = (h, refl)
 
-opening_clash : (v : ℕ → ℕ → ℕ) (ls : List ℕ) (used act : List Pair) (before : List Role) (k : ℕ) → atom_count before ≡ suc k → mark_of before ≡ None → Agrees before act → Covers used act
+opening_clash : (v : ℕ → ℕ → Option BondMark) (ls : List ℕ) (used act : List Pair) (before : List Role) (k : ℕ) → atom_count before ≡ suc k → mark_of before ≡ None → Agrees before act → Covers used act
     → Along is_clash before → Along is_clash (onto_all (opened_roles (opened v used k ls)) before)
 opening_clash v [] used act before k counted bare agrees covers h = h
 opening_clash v (l ∷ ls) used act before k counted bare agrees covers h =
     let p : Pair = new_pair v used k l in
-    let marked : List Role = onto_all (mark_roles (symbol_of p.order)) before in
-    let mk = mark_read (symbol_of p.order) before bare in
+    let marked : List Role = onto_all (mark_roles (p.symbol)) before in
+    let mk = mark_read (p.symbol) before bare in
     let agrees' : Agrees marked act = λ m. mk.rings m ∙ agrees m in
     let none = opens_next used act marked agrees' covers in
-    subst (λ (x : List Role). Along is_clash x) (sym (onto_append (mark_roles (symbol_of p.order)) (Ring p.number ∷ opened_roles (opened v (p ∷ used) k ls)) before))
+    subst (λ (x : List Role). Along is_clash x) (sym (onto_append (mark_roles (p.symbol)) (Ring p.number ∷ opened_roles (opened v (p ∷ used) k ls)) before))
     (opening_clash v ls (p ∷ used) (p ∷ act) (Ring p.number ∷ marked) k (mk.counted ∙ counted) refl
     (agrees_next p act marked (mk.counted ∙ counted) mk.mark agrees' none) (covers_next p used act covers)
-    (mark_clash (symbol_of p.order) before h, fresh_clash (open_end p.number marked) (ring_end marked) none))
+    (mark_clash (p.symbol) before h, fresh_clash (open_end p.number marked) (ring_end marked) none))
 
-pub rings_clash : (v : ℕ → ℕ → ℕ) (r : ℕ → ℕ → Bool) (n k : ℕ) (before : List Role) → atom_count before ≡ suc k → mark_of before ≡ None → Agrees before (active v r n k)
+pub rings_clash : (v : ℕ → ℕ → Option BondMark) (r : ℕ → ℕ → Bool) (n k : ℕ) (before : List Role) → atom_count before ≡ suc k → mark_of before ≡ None → Agrees before (active v r n k)
     → Along is_clash before → Along is_clash (onto_all (ring_roles v r n k) before)
 rings_clash v r n k before counted bare agrees h =
     let ps : List Pair = active v r n k in

@@ -10,7 +10,7 @@ use Rattle.mc_mol.specs.WellFormed.{IsBond, IsMolecule}
 use Rattle.mc_mol.specs.Parts.{are_connected, count_below, begins_part, part_count}
 use Rattle.mc_mol.proofs.Lists.{All-head, All-tail}
 use Rattle.mc_mol.proofs.Labelled.{none_found}
-use Rattle.smi_graph.specs.Bonds.{or_else}
+use Rattle.smi_graph.specs.Links.{or_else}
 use Rattle.smi_mean.specs.Order.{Graph, graph_of, Step, least, is_written, beginning, next_behind, next_step, onto, order, steps, place, parent_place, parents, atoms}
 use Rattle.smi_write.proofs.Least.{test_other, test_same, same_of, and_true, or_true, not_false, not_true, some_same, least_some}
 use Rattle.smi_write.proofs.Counting.{count, count_one}

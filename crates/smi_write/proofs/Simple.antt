@@ -8,7 +8,8 @@ use Rattle.mc_mol.specs.WellFormed.{IsBond}
 use Rattle.mc_mol.proofs.Lists.{All-head, All-tail}
 use Rattle.smi_mean.specs.Order.{order_between}
 use Rattle.smi_write.proofs.Least.{test_same, same_of, and_true, or_true, not_true}
-use Rattle.smi_write.proofs.RoleText.{said}
+use Rattle.smi_graph.specs.Links.{order_of}
+use Rattle.smi_mean.specs.Written.{symbol_of}
 
 pub or_comm : (a b : Bool) → (a || b) ≡ (b || a)
 or_comm true true = refl
@@ -64,6 +65,10 @@ simple_of n (b ∷ bs) h pairs =
         simple_of n bs (All-tail (IsBond n) b bs h) (λ i j d less below. pairs (suc i) (suc j) d (omega arith) (omega arith)),
       ),
     )
+
+-- the order that is read where a symbol of this order is written
+abbrev said : ℕ → ℕ
+said order = order_of (symbol_of order)
 
 -- an order from 1 to 4 is said by its symbol
 pub said_is : (o : ℕ) → 1 ≤ o → o ≤ 4 → said o ≡ o

@@ -12,7 +12,7 @@ use Rattle.smi_lex.specs.Reading.{IsCause, IsReading}
 use Rattle.smi_lex.specs.Tokens.{tokens, unread}
 use Rattle.smi_lex.proofs.Causes.{cause_is}
 use Rattle.smi_lex.proofs.Reading.{reads_from}
-use Rattle.smi_graph.specs.declared.skeleton.SkelAtom.{SkelAtom}
+use Rattle.smi_graph.specs.declared.skel_atom.SkelAtom.{SkelAtom}
 use Rattle.smi_graph.specs.Order.{is_misplaced, misplaced_at}
 use Rattle.smi_graph.specs.Roles.{atom_of, atoms_of, role_of, roles}
 use Rattle.smi_graph.specs.Rules.{atoms_in, bonds_in, byte_place, roles_in}

@@ -8,7 +8,7 @@ use Rattle.mc_mol.specs.Molecule.{Molecule}
 use Rattle.smi_lex.specs.declared.token.BondMark.TheVariants.{Double}
 use Rattle.smi_lex.specs.declared.token.TokenKind.TheVariants.{Bare, Bond, Ring, Enter, Leave, Dot}
 use Rattle.smi_graph.specs.Roles.{role_of}
-use Rattle.smi_graph.specs.Bonds.{bond_between, bonds_of}
+use Rattle.smi_graph.specs.Links.{bond_between, bonds_of}
 use Rattle.smi_mean.specs.Written.{written_tokens}
 
 abbrev bare : Element → ℕ → Atom

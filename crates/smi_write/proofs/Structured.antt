@@ -1,27 +1,26 @@
 -- What is known of a written text once its tokens are read as the structure of its molecule.
-use Rattle.std.proofs.Common.{arith, ◌≡◌, ◌<◌, ◌≤◌, ◌+◌, ◌-◌, ℕ, zero, suc, true, false, List, [], ◌∷◌, length, map, reverse, Option, Some, None, refl, sym, ap, subst, ◌∙◌}
+use Rattle.std.proofs.Common.{arith, ◌≡◌, ◌<◌, ◌≤◌, ◌+◌, ℕ, zero, suc, true, false, List, [], ◌∷◌, length, map, reverse, Option, Some, None, refl, sym, ap, subst, ◌∙◌}
 use Rattle.std.specs.Prelude.{slice_get}
 use Rattle.std.specs.List.{list_all}
 use Rattle.std.proofs.lemmas.List.Folds.{list_all-map}
 use Rattle.mc_mol.specs.declared.parts.Atom.{Atom}
 use Rattle.mc_mol.specs.declared.parts.Bond as bond
 use Rattle.mc_mol.specs.Molecule.{Molecule, bond_sum}
-use Rattle.mc_mol.specs.Parts.{independent_rings, part_count}
+use Rattle.mc_mol.specs.Parts.{independent_rings}
 use Rattle.smi_lex.specs.declared.token.Token.{Token}
 use Rattle.smi_lex.specs.declared.token.TokenKind.{TokenKind}
 use Rattle.smi_lex.specs.declared.token.TokenKind.TheVariants.{Bare, Bracket, Bond, Ring, Enter, Leave, Dot}
 use Rattle.smi_lex.specs.Tokens.{tokens, unread}
 use Rattle.smi_lex.proofs.Reading.{reads_from}
 use Rattle.smi_graph.specs.declared.role.Role.{Role}
-use Rattle.smi_graph.specs.declared.role.Role.TheVariants as doing
-use Rattle.smi_graph.specs.declared.skeleton.SkelAtom.{SkelAtom}
-use Rattle.smi_graph.specs.Bonds.{bonds_of}
+use Rattle.smi_graph.specs.declared.skel_atom.SkelAtom.{SkelAtom}
+use Rattle.smi_graph.specs.Links.{bonds_of}
 use Rattle.smi_graph.specs.Roles.{role_of, roles}
 use Rattle.smi_graph.specs.Rules.{atoms_in, bonds_in, is_built, is_built_kind, roles_in}
 use Rattle.smi_mean.specs.Meaning.{atoms_with, meaning}
 use Rattle.smi_mean.specs.Order.{Graph, graph_of, order, atoms, parents}
 use Rattle.smi_mean.specs.Sound.{IsSound}
-use Rattle.smi_mean.specs.Written.{at, atom_token, bond_order, graph_tokens, has_ring, token_in, written_text, written_tokens}
+use Rattle.smi_mean.specs.Written.{at, atom_token, bond_symbol, has_ring, token_in, written_text, written_tokens}
 use Rattle.smi_write.specs.Structure.{ReadsAs, IsOrder}
 use Rattle.smi_write.proofs.Walk.{length_parents}
 use Rattle.smi_write.proofs.Once.{length_atoms}
@@ -32,37 +31,16 @@ use Rattle.smi_write.proofs.AtomsRead.{atom_tokens, atoms_meant, atoms_of_text, 
 
 -- the structure of the tokens that are written for a molecule
 pub record Structured (m : Molecule) : Type 0 where
-  pub reads : ReadsAs m (map role_of (written_tokens m))
+  pub reads : ReadsAs m (λ j l. bond_symbol (graph_of m) j l) (map role_of (written_tokens m))
   pub order : IsOrder m (atoms (order (graph_of m)))
   pub numbers : RingsFit (written_tokens m)
   pub rings : independent_rings (bonds_of (reverse (map role_of (written_tokens m)))) (length m.atoms) ≤ 99
-
-no_more_rings : (bonds parts more atoms : ℕ) → parts ≤ more → (bonds + more) - atoms ≤ 99 → (bonds + parts) - atoms ≤ 99
-no_more_rings bonds parts more atoms fewer few = omega arith
-
--- The structure that is read for any tokens of the atoms, the order, the ring numbers, and no more connected parts than the
--- molecule has.
-pub structured : (m : Molecule) → IsSound m
-    → ((token : ℕ → TokenKind) → ((u : ℕ) → role_of (token u) ≡ doing.Atom) → ReadsAs m (map role_of (graph_tokens (graph_of m) token)))
-    → IsOrder m (atoms (order (graph_of m))) → RingsFit (written_tokens m)
-    → part_count (bonds_of (reverse (map role_of (written_tokens m)))) (length m.atoms) ≤ part_count m.bonds (length m.atoms)
-    → Structured m
-structured m sound reads_as ordered fit fewer =
-    let reads : ReadsAs m (map role_of (written_tokens m)) = reads_as (atom_token m) (role_of_atom m) in
-    let bonds : List bond.Bond = bonds_of (reverse (map role_of (written_tokens m))) in
-    record {
-      reads = reads;
-      order = ordered;
-      numbers = fit;
-      rings = subst (λ (n : ℕ). (n + part_count bonds (length m.atoms)) - length m.atoms ≤ 99) (sym reads.count)
-          (no_more_rings (length m.bonds) (part_count bonds (length m.atoms)) (part_count m.bonds (length m.atoms)) (length m.atoms) fewer sound.rings);
-    }
 
 -- what the text of a molecule is read as
 pub record IsRead (m : Molecule) (text : List ℕ) : Type 0 where
   pub nothing_left : unread text ≡ []
   pub built : is_built text ≡ true
-  pub reads : ReadsAs m (roles_in text)
+  pub reads : ReadsAs m (λ j l. bond_symbol (graph_of m) j l) (roles_in text)
   pub count : length (atoms_in text) ≡ length m.atoms
   pub same_atoms : (k : ℕ) → k < length m.atoms → slice_get (meaning text).atoms k ≡ slice_get m.atoms (at (graph_of m) k)
   pub few_rings : independent_rings (bonds_in text) (length (atoms_in text)) ≤ 99
@@ -98,7 +76,7 @@ length_with bonds k (atom ∷ atoms) = ap suc (length_with bonds (k + 1) atoms)
 atoms_written : (m : Molecule) → atom_tokens (written_tokens m) ≡ map (atom_token m) (atoms (order (graph_of m)))
 atoms_written m =
     let g : Graph = graph_of m in
-    atoms_of_text (λ j l. bond_order g j l) (λ j l. has_ring g j l) g.count 0 (atom_token m) (atoms (order g)) (parents (order g))
+    atoms_of_text (λ j l. bond_symbol g j l) (λ j l. has_ring g j l) g.count 0 (atom_token m) (atoms (order g)) (parents (order g))
     (role_of_atom m) (length_atoms (order g) ∙ sym (length_parents (order g)))
 
 -- an atom's token means the atom
@@ -121,7 +99,7 @@ read_as m text structured are left same =
     let us : List ℕ = atoms (order g) in
     let bonds : List bond.Bond = bonds_in text in
     let same_roles : roles_in text ≡ map role_of (written_tokens m) = roles_by_kind (tokens text) ∙ ap (map role_of) same in
-    let reads : ReadsAs m (roles_in text) = subst (λ (rs : List Role). ReadsAs m rs) (sym same_roles) structured.reads in
+    let reads : ReadsAs m (λ j l. bond_symbol g j l) (roles_in text) = subst (λ (rs : List Role). ReadsAs m (λ j l. bond_symbol g j l) rs) (sym same_roles) structured.reads in
     let meant : atoms_with bonds 0 (atoms_in text) ≡ meant_atoms bonds 0 (map (atom_token m) us) =
     atoms_meant bonds 0 (tokens text) ∙ ap (λ (ks : List TokenKind). meant_atoms bonds 0 (atom_tokens ks)) same
     ∙ ap (meant_atoms bonds 0) (atoms_written m) in

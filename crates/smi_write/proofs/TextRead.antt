@@ -3,22 +3,22 @@ use Rattle.std.proofs.Common.{◌≡◌, ℕ, zero, suc, ◌+◌, ◌≤◌, ◌
 use Rattle.std.specs.Prelude.{◌==◌, ◌&&◌, not}
 use Rattle.std.proofs.lemmas.Bool.{cases_eq}
 use Rattle.std.proofs.lemmas.List.{append-nil, append_assoc}
-use Rattle.mc_mol.specs.declared.parts.Bond as bond
+use Rattle.smi_graph.specs.declared.text_bond.TextBond.{TextBond}
+use Rattle.std.specs.Prelude.{option_to_list}
 use Rattle.smi_lex.specs.declared.token.BondMark.{BondMark}
 use Rattle.smi_graph.specs.declared.role.Role.{Role}
 use Rattle.smi_graph.specs.declared.role.Role.TheVariants.{Atom, Bond, Ring, Dot, Enter, Leave}
 use Rattle.smi_graph.specs.Order.{depth, depth_behind, holds_ring, is_ring, is_stray_bond, may_follow, latest, is_misplaced}
-use Rattle.smi_graph.specs.Bonds.{atom_count, predecessor, mark_of, order_of, bond_between, chain_bond, bonds_of}
-use Rattle.smi_graph.specs.Reading.{open_once_closed, return_atoms}
+use Rattle.smi_graph.specs.Bonds.{atom_count, predecessor, mark_of, text_bond, chain_bond, text_bonds}
+use Rattle.smi_graph.specs.Branches.{open_once_closed, return_atoms}
 use Rattle.smi_graph.specs.RingRules.{is_clash}
 use Rattle.smi_graph.proofs.OpenLaw.{predecessor_is}
 use Rattle.smi_graph.proofs.ReadingSteps.{open_behind}
 use Rattle.smi_mean.specs.RingNumbers.{Pair, has, onto_all, active, closing, opening}
-use Rattle.smi_mean.specs.Written.{symbol_of}
 use Rattle.smi_write.specs.Nested.{IsNested}
 use Rattle.smi_write.proofs.Along.{Along}
 use Rattle.smi_write.proofs.Least.{test_other, test_same}
-use Rattle.smi_write.proofs.RoleText.{mark_roles, closed_roles, opened_roles, ring_roles, role_if_not, before_roles, text_roles, said, links, parent_bond, bonds_from}
+use Rattle.smi_write.proofs.RoleText.{mark_roles, closed_roles, opened_roles, ring_roles, role_if_not, before_roles, text_roles, links, parent_bond, bonds_from}
 use Rattle.smi_write.proofs.RingSteps.{Agrees, rings_agree, rings_bonds, rings_clash, onto_append}
 use Rattle.smi_write.proofs.Shape.{nested_tail, no_gap, pending, pending_nil, pending_skip, pending_none, pending_top, pending_cut}
 
@@ -32,7 +32,7 @@ Free before = holds_ring (latest before) ≡ true
 
 may : (before : List Role) → Free before → (next : Option Role) → may_follow (latest before) next ≡ true
 may [] free next = cc
-may (Atom ∷ before) free next = refl
+may (Atom lower ∷ before) free next = refl
 may (Ring n ∷ before) free next = refl
 may (Bond o ∷ before) free next = cc
 may (Dot ∷ before) free next = cc
@@ -41,7 +41,7 @@ may (Leave ∷ before) free next = cc
 
 unstray : (before : List Role) → Free before → is_stray_bond before ≡ false
 unstray [] free = refl
-unstray (Atom ∷ before) free = refl
+unstray (Atom lower ∷ before) free = refl
 unstray (Ring n ∷ before) free = refl
 unstray (Bond o ∷ before) free = cc
 unstray (Dot ∷ before) free = refl
@@ -50,7 +50,7 @@ unstray (Leave ∷ before) free = refl
 
 unmarked : (before : List Role) → Free before → mark_of before ≡ None
 unmarked [] free = refl
-unmarked (Atom ∷ before) free = refl
+unmarked (Atom lower ∷ before) free = refl
 unmarked (Ring n ∷ before) free = refl
 unmarked (Bond o ∷ before) free = cc
 unmarked (Dot ∷ before) free = refl
@@ -58,13 +58,13 @@ unmarked (Enter ∷ before) free = refl
 unmarked (Leave ∷ before) free = refl
 
 -- What has been read: k atoms with these bonds, these open ring numbers, and branches open from these atoms.
-pub record Read (k : ℕ) (open_ : List ℕ) (act : List Pair) (bs : List bond.Bond) (before : List Role) : Type 0 where
+pub record Read (k : ℕ) (open_ : List ℕ) (act : List Pair) (bs : List TextBond) (before : List Role) : Type 0 where
   pub stack : return_atoms before ≡ map Some open_
   pub deep : depth before ≡ Some (length open_)
   pub counted : atom_count before ≡ k
   pub agrees : Agrees before act
   pub clash : Along is_clash before
-  pub bonds : bonds_of before ≡ bs
+  pub bonds : text_bonds before ≡ bs
   pub valid : Along is_misplaced before
 
 -- the latest open atom, which is the predecessor of what follows
@@ -77,7 +77,7 @@ again : (p : ℕ) (before after : List Role) → Last p before → predecessor a
 again p before after h law same = record { last = same ∙ h.last; pred = law ∙ same ∙ h.last }
 
 abbrev pub MayAtom : List Role → Type 0
-MayAtom before = may_follow (latest before) (Some Atom) ≡ true
+MayAtom before = may_follow (latest before) (Some (Atom false)) ≡ true
 
 abbrev pub MayEnter : List Role → Type 0
 MayEnter before = may_follow (latest before) (Some Enter) ≡ true
@@ -85,11 +85,11 @@ MayEnter before = may_follow (latest before) (Some Enter) ≡ true
 abbrev pub MayMark : List Role → Type 0
 MayMark before = (o : BondMark) → may_follow (latest before) (Some (Bond o)) ≡ true
 
-read_pending : (k : ℕ) (open_ open' : List ℕ) (act : List Pair) (bs : List bond.Bond) (before : List Role) → open_ ≡ open' → Read k open_ act bs before → Read k open' act bs before
+read_pending : (k : ℕ) (open_ open' : List ℕ) (act : List Pair) (bs : List TextBond) (before : List Role) → open_ ≡ open' → Read k open_ act bs before → Read k open' act bs before
 read_pending k open_ open' act bs before e read = subst (λ (x : List ℕ). Read k x act bs before) e read
 
 -- one atom back
-leave : (p k : ℕ) (open_ : List ℕ) (act : List Pair) (bs : List bond.Bond) (before : List Role)
+leave : (p k : ℕ) (open_ : List ℕ) (act : List Pair) (bs : List TextBond) (before : List Role)
     → Read k (p ∷ open_) act bs before → may_follow (latest before) (Some Leave) ≡ true → Read k open_ act bs (Leave ∷ before) × Last p (Leave ∷ before)
 leave p k open_ act bs before read follows =
     let deep : depth (Leave ∷ before) ≡ Some (length open_) = ap (λ (o : Option ℕ). depth_behind o Leave) read.deep in
@@ -100,13 +100,13 @@ leave p k open_ act bs before read follows =
         counted = read.counted;
         agrees = read.agrees;
         clash = (read.clash, refl);
-        bonds = append-nil (bonds_of before) ∙ read.bonds;
+        bonds = append-nil (text_bonds before) ∙ read.bonds;
         valid = (read.valid, placed before Leave _ follows refl deep);
       },
       record { last = back; pred = predecessor_is (Leave ∷ before) ∙ back },
     )
 
-enter : (p k : ℕ) (open_ : List ℕ) (act : List Pair) (bs : List bond.Bond) (before : List Role)
+enter : (p k : ℕ) (open_ : List ℕ) (act : List Pair) (bs : List TextBond) (before : List Role)
     → Read k open_ act bs before → Last p before → MayEnter before → Read k (p ∷ open_) act bs (Enter ∷ before) × Last p (Enter ∷ before)
 enter p k open_ act bs before read last follows =
     let deep : depth (Enter ∷ before) ≡ Some (length open_ + 1) = ap (λ (o : Option ℕ). depth_behind o Enter) read.deep in (
@@ -116,13 +116,13 @@ enter p k open_ act bs before read last follows =
         counted = read.counted;
         agrees = read.agrees;
         clash = (read.clash, refl);
-        bonds = append-nil (bonds_of before) ∙ read.bonds;
+        bonds = append-nil (text_bonds before) ∙ read.bonds;
         valid = (read.valid, placed before Enter _ follows refl deep);
       },
       again p before (Enter ∷ before) last (predecessor_is (Enter ∷ before)) refl,
     )
 
-dot : (k : ℕ) (open_ : List ℕ) (act : List Pair) (bs : List bond.Bond) (before : List Role) → Read k open_ act bs before → Free before → Read k open_ act bs (Dot ∷ before)
+dot : (k : ℕ) (open_ : List ℕ) (act : List Pair) (bs : List TextBond) (before : List Role) → Read k open_ act bs before → Free before → Read k open_ act bs (Dot ∷ before)
 dot k open_ act bs before read free =
     let deep : depth (Dot ∷ before) ≡ Some (length open_) = ap (λ (o : Option ℕ). depth_behind o Dot) read.deep in
     record {
@@ -131,25 +131,25 @@ dot k open_ act bs before read free =
       counted = read.counted;
       agrees = read.agrees;
       clash = (read.clash, refl);
-      bonds = append-nil (bonds_of before) ∙ read.bonds;
+      bonds = append-nil (text_bonds before) ∙ read.bonds;
       valid = (read.valid, placed before Dot _ (may before free (Some Dot)) refl deep);
     }
 
-atom : (v : ℕ → ℕ → ℕ) (p k : ℕ) (open_ : List ℕ) (act : List Pair) (bs : List bond.Bond) (before : List Role)
-    → Read k open_ act bs before → chain_bond (predecessor before) k (mark_of before) ≡ parent_bond v p k → MayAtom before
-    → Read (suc k) open_ act (bs ++ parent_bond v p k) (Atom ∷ before) × Last k (Atom ∷ before)
+atom : (v : ℕ → ℕ → Option BondMark) (p k : ℕ) (open_ : List ℕ) (act : List Pair) (bs : List TextBond) (before : List Role)
+    → Read k open_ act bs before → option_to_list (chain_bond (predecessor before) k (mark_of before)) ≡ parent_bond v p k → MayAtom before
+    → Read (suc k) open_ act (bs ++ parent_bond v p k) (Atom false ∷ before) × Last k (Atom false ∷ before)
 atom v p k open_ act bs before read made follows =
-    let deep : depth (Atom ∷ before) ≡ Some (length open_) = ap (λ (o : Option ℕ). depth_behind o Atom) read.deep in (
+    let deep : depth (Atom false ∷ before) ≡ Some (length open_) = ap (λ (o : Option ℕ). depth_behind o (Atom false)) read.deep in (
       record {
         stack = read.stack;
         deep = deep;
         counted = ap (λ (n : ℕ). n + 1) read.counted ∙ omega arith;
         agrees = read.agrees;
         clash = (read.clash, refl);
-        bonds = ap (λ (n : ℕ). bonds_of before ++ chain_bond (predecessor before) n (mark_of before)) read.counted ∙ ap (λ (x : List bond.Bond). bonds_of before ++ x) made ∙ ap (λ (x : List bond.Bond). x ++ parent_bond v p k) read.bonds;
-        valid = (read.valid, placed before Atom _ follows refl deep);
+        bonds = ap (λ (n : ℕ). text_bonds before ++ option_to_list (chain_bond (predecessor before) n (mark_of before))) read.counted ∙ ap (λ (x : List TextBond). text_bonds before ++ x) made ∙ ap (λ (x : List TextBond). x ++ parent_bond v p k) read.bonds;
+        valid = (read.valid, placed before (Atom false) _ follows refl deep);
       },
-      record { last = ap Some read.counted; pred = predecessor_is (Atom ∷ before) ∙ ap Some read.counted },
+      record { last = ap Some read.counted; pred = predecessor_is (Atom false ∷ before) ∙ ap Some read.counted },
     )
 
 -- ring numbers change neither branches nor the latest atom
@@ -194,15 +194,15 @@ rings_keep (p ∷ ps) k j open_ before h = rings_keep ps k j open_ (Ring p.numbe
 all_keep : (ps : List Pair) (k j : ℕ) (open_ : List ℕ) (before : List Role) → Kept k j open_ before → Kept k j open_ (onto_all (opened_roles ps) before)
 all_keep [] k j open_ before h = h
 all_keep (p ∷ ps) k j open_ before h =
-    subst (λ (x : List Role). Kept k j open_ x) (sym (onto_append (mark_roles (symbol_of p.order)) (Ring p.number ∷ opened_roles ps) before))
-    (all_keep ps k j open_ (Ring p.number ∷ onto_all (mark_roles (symbol_of p.order)) before) (marked_keeps p.number (symbol_of p.order) k j open_ before h))
+    subst (λ (x : List Role). Kept k j open_ x) (sym (onto_append (mark_roles (p.symbol)) (Ring p.number ∷ opened_roles ps) before))
+    (all_keep ps k j open_ (Ring p.number ∷ onto_all (mark_roles (p.symbol)) before) (marked_keeps p.number (p.symbol) k j open_ before h))
 
-pub record Behind (v : ℕ → ℕ → ℕ) (r : ℕ → ℕ → Bool) (n j : ℕ) (open_ : List ℕ) (bs : List bond.Bond) (before : List Role) : Type 0 where
+pub record Behind (v : ℕ → ℕ → Option BondMark) (r : ℕ → ℕ → Bool) (n j : ℕ) (open_ : List ℕ) (bs : List TextBond) (before : List Role) : Type 0 where
   pub read : Read (suc j) open_ (active v r n (suc j)) bs before
   pub last : Last j before
   pub free : Free before
 
-ring_numbers : (v : ℕ → ℕ → ℕ) (r : ℕ → ℕ → Bool) (n j : ℕ) (open_ : List ℕ) (bs : List bond.Bond) (before : List Role)
+ring_numbers : (v : ℕ → ℕ → Option BondMark) (r : ℕ → ℕ → Bool) (n j : ℕ) (open_ : List ℕ) (bs : List TextBond) (before : List Role)
     → Read (suc j) open_ (active v r n j) bs before → Last j before → Free before → Behind v r n j open_ (bs ++ links j (closing v r n j)) (onto_all (ring_roles v r n j) before)
 ring_numbers v r n j open_ bs before read last free =
     let k1 = rings_keep (closing v r n j) (suc j) j open_ before (record { stack = read.stack; deep = read.deep; counted = read.counted; valid = read.valid; last = last; free = free }) in
@@ -215,31 +215,31 @@ ring_numbers v r n j open_ bs before read last free =
         counted = k.counted;
         agrees = rings_agree v r n j before read.counted (unmarked before free) read.agrees;
         clash = rings_clash v r n j before read.counted (unmarked before free) read.agrees read.clash;
-        bonds = rings_bonds v r n j before read.counted (unmarked before free) read.agrees ∙ ap (λ (x : List bond.Bond). x ++ links j (closing v r n j)) read.bonds;
+        bonds = rings_bonds v r n j before read.counted (unmarked before free) read.agrees ∙ ap (λ (x : List TextBond). x ++ links j (closing v r n j)) read.bonds;
         valid = k.valid;
       };
       last = k.last;
       free = k.free;
     }
 
-whole_atom : (v : ℕ → ℕ → ℕ) (r : ℕ → ℕ → Bool) (n p k : ℕ) (open_ : List ℕ) (bs : List bond.Bond) (before : List Role)
-    → Read k open_ (active v r n k) bs before → chain_bond (predecessor before) k (mark_of before) ≡ parent_bond v p k → MayAtom before
-    → Behind v r n k open_ ((bs ++ parent_bond v p k) ++ links k (closing v r n k)) (onto_all (ring_roles v r n k) (Atom ∷ before))
+whole_atom : (v : ℕ → ℕ → Option BondMark) (r : ℕ → ℕ → Bool) (n p k : ℕ) (open_ : List ℕ) (bs : List TextBond) (before : List Role)
+    → Read k open_ (active v r n k) bs before → option_to_list (chain_bond (predecessor before) k (mark_of before)) ≡ parent_bond v p k → MayAtom before
+    → Behind v r n k open_ ((bs ++ parent_bond v p k) ++ links k (closing v r n k)) (onto_all (ring_roles v r n k) (Atom false ∷ before))
 whole_atom v r n p k open_ bs before read pred follows =
     let added = atom v p k open_ (active v r n k) bs before read pred follows in
-    ring_numbers v r n k open_ (bs ++ parent_bond v p k) (Atom ∷ before) added.0 added.1 refl
+    ring_numbers v r n k open_ (bs ++ parent_bond v p k) (Atom false ∷ before) added.0 added.1 refl
 
 -- ready for an atom whose parent is p - 1
-pub record Ready (v : ℕ → ℕ → ℕ) (r : ℕ → ℕ → Bool) (n p k : ℕ) (open_ : List ℕ) (bs : List bond.Bond) (before : List Role) : Type 0 where
+pub record Ready (v : ℕ → ℕ → Option BondMark) (r : ℕ → ℕ → Bool) (n p k : ℕ) (open_ : List ℕ) (bs : List TextBond) (before : List Role) : Type 0 where
   pub read : Read k open_ (active v r n k) bs before
-  pub bond : chain_bond (predecessor before) k (mark_of before) ≡ parent_bond v p k
+  pub bond : option_to_list (chain_bond (predecessor before) k (mark_of before)) ≡ parent_bond v p k
   pub follows : MayAtom before
 
 abbrev Gap : ℕ → ℕ → List ℕ → Type 0
 Gap p j qs = (q : ℕ) → p < q → q ≤ j → has q qs ≡ false
 
 -- a new part
-ready_dot : (v : ℕ → ℕ → ℕ) (r : ℕ → ℕ → Bool) (n j : ℕ) (qs : List ℕ) (bs : List bond.Bond) (before : List Role)
+ready_dot : (v : ℕ → ℕ → Option BondMark) (r : ℕ → ℕ → Bool) (n j : ℕ) (qs : List ℕ) (bs : List TextBond) (before : List Role)
     → Gap 0 (suc j) qs → Behind v r n j (pending j (0 ∷ qs)) bs before
     → Ready v r n 0 (suc j) (pending (suc j) qs) bs (Dot ∷ before)
 ready_dot v r n j qs bs before gap at =
@@ -250,7 +250,7 @@ ready_dot v r n j qs bs before gap at =
       follows = refl;
     }
 
-pub record Returned (v : ℕ → ℕ → ℕ) (r : ℕ → ℕ → Bool) (n p j : ℕ) (open_ : List ℕ) (bs : List bond.Bond) (before : List Role) : Type 0 where
+pub record Returned (v : ℕ → ℕ → Option BondMark) (r : ℕ → ℕ → Bool) (n p j : ℕ) (open_ : List ℕ) (bs : List TextBond) (before : List Role) : Type 0 where
   pub read : Read (suc j) open_ (active v r n (suc j)) bs before
   pub last : Last p before
   pub may_enter : MayEnter before
@@ -258,7 +258,7 @@ pub record Returned (v : ℕ → ℕ → ℕ) (r : ℕ → ℕ → Bool) (n p j 
   pub marks : MayMark before
   pub bare : mark_of before ≡ None
 
-go_back : (v : ℕ → ℕ → ℕ) (r : ℕ → ℕ → Bool) (n p j : ℕ) (qs : List ℕ) (bs : List bond.Bond) (before : List Role)
+go_back : (v : ℕ → ℕ → Option BondMark) (r : ℕ → ℕ → Bool) (n p j : ℕ) (qs : List ℕ) (bs : List TextBond) (before : List Role)
     → p ≤ j → Gap (suc p) (suc j) qs → Behind v r n j (pending j (suc p ∷ qs)) bs before
     → Returned v r n p j (pending p qs) bs (onto_all (role_if_not (suc p == suc j) Leave) before)
 go_back v r n p j qs bs before le gap at = elim (cases_eq p j) [
@@ -269,7 +269,7 @@ go_back v r n p j qs bs before le gap at = elim (cases_eq p j) [
         read = read_pending (suc j) _ _ (active v r n (suc j)) bs before s at.read;
         last = subst (λ (x : ℕ). Last x before) (sym e) at.last;
         may_enter = may before at.free (Some Enter);
-        follows = may before at.free (Some Atom);
+        follows = may before at.free (Some (Atom false));
         marks = λ o. may before at.free (Some (Bond o));
         bare = unmarked before at.free;
       })
@@ -280,24 +280,24 @@ go_back v r n p j qs bs before le gap at = elim (cases_eq p j) [
 ]
 
 -- ready for the mark of an atom whose parent is p
-pub record Marking (v : ℕ → ℕ → ℕ) (r : ℕ → ℕ → Bool) (n p k : ℕ) (open_ : List ℕ) (bs : List bond.Bond) (before : List Role) : Type 0 where
+pub record Marking (v : ℕ → ℕ → Option BondMark) (r : ℕ → ℕ → Bool) (n p k : ℕ) (open_ : List ℕ) (bs : List TextBond) (before : List Role) : Type 0 where
   pub read : Read k open_ (active v r n k) bs before
   pub last : Last p before
   pub follows : MayAtom before
   pub marks : MayMark before
   pub bare : mark_of before ≡ None
 
-bond_is : (o p k : ℕ) (before : List Role) → predecessor before ≡ Some p → order_of (mark_of before) ≡ o → chain_bond (predecessor before) k (mark_of before) ≡ bond_between p k o ∷ []
-bond_is o p k before pred order = ap (λ (x : Option ℕ). chain_bond x k (mark_of before)) pred ∙ ap (λ (n : ℕ). bond_between p k n ∷ []) order
+bond_is : (o : Option BondMark) (p k : ℕ) (before : List Role) → predecessor before ≡ Some p → mark_of before ≡ o → option_to_list (chain_bond (predecessor before) k (mark_of before)) ≡ text_bond p k o None ∷ []
+bond_is o p k before pred marked = ap (λ (x : Option ℕ). option_to_list (chain_bond x k (mark_of before))) pred ∙ ap (λ (x : Option BondMark). text_bond p k x None ∷ []) marked
 
-mark : (v : ℕ → ℕ → ℕ) (r : ℕ → ℕ → Bool) (n p k : ℕ) (open_ : List ℕ) (bs : List bond.Bond) (before : List Role)
-    → Marking v r n p k open_ bs before → Ready v r n (suc p) k open_ bs (onto_all (mark_roles (symbol_of (v p k))) before)
-mark v r n p k open_ bs before at = by_mark (symbol_of (v p k)) refl
+mark : (v : ℕ → ℕ → Option BondMark) (r : ℕ → ℕ → Bool) (n p k : ℕ) (open_ : List ℕ) (bs : List TextBond) (before : List Role)
+    → Marking v r n p k open_ bs before → Ready v r n (suc p) k open_ bs (onto_all (mark_roles (v p k)) before)
+mark v r n p k open_ bs before at = by_mark (v p k) refl
   where
-    by_mark : (o : Option BondMark) → symbol_of (v p k) ≡ o → Ready v r n (suc p) k open_ bs (onto_all (mark_roles o) before)
+    by_mark : (o : Option BondMark) → v p k ≡ o → Ready v r n (suc p) k open_ bs (onto_all (mark_roles o) before)
     by_mark None e =
         let l = at.last in
-        record { read = at.read; bond = bond_is (said (v p k)) p k before l.pred (ap order_of (at.bare ∙ sym e)); follows = at.follows }
+        record { read = at.read; bond = bond_is (v p k) p k before l.pred (at.bare ∙ sym e); follows = at.follows }
     by_mark (Some o) e =
         let l = at.last in
         let read = at.read in
@@ -309,14 +309,14 @@ mark v r n p k open_ bs before at = by_mark (symbol_of (v p k)) refl
             counted = read.counted;
             agrees = read.agrees;
             clash = (read.clash, refl);
-            bonds = append-nil (bonds_of before) ∙ read.bonds;
+            bonds = append-nil (text_bonds before) ∙ read.bonds;
             valid = (read.valid, placed before (Bond o) _ (at.marks o) refl deep);
           };
-          bond = bond_is (said (v p k)) p k (Bond o ∷ before) (predecessor_is (Bond o ∷ before) ∙ l.last) (ap order_of (sym e));
+          bond = bond_is (v p k) p k (Bond o ∷ before) (predecessor_is (Bond o ∷ before) ∙ l.last) (sym e);
           follows = refl;
         }
 
-open_branch : (v : ℕ → ℕ → ℕ) (r : ℕ → ℕ → Bool) (n p j : ℕ) (qs : List ℕ) (bs : List bond.Bond) (before : List Role) (h : Bool) → has (suc p) qs ≡ h
+open_branch : (v : ℕ → ℕ → Option BondMark) (r : ℕ → ℕ → Bool) (n p j : ℕ) (qs : List ℕ) (bs : List TextBond) (before : List Role) (h : Bool) → has (suc p) qs ≡ h
     → p ≤ j → Gap (suc p) (suc j) qs → Returned v r n p j (pending p qs) bs before
     → Marking v r n p (suc j) (pending (suc j) qs) bs (onto_all (role_if_not (not h) Enter) before)
 open_branch v r n p j qs bs before true is le gap at =
@@ -328,7 +328,7 @@ open_branch v r n p j qs bs before false is le gap at =
     record { read = read_pending (suc j) _ _ (active v r n (suc j)) bs before cut at.read; last = at.last; follows = at.follows; marks = at.marks; bare = at.bare }
 
 -- what stands before an atom
-ready : (v : ℕ → ℕ → ℕ) (r : ℕ → ℕ → Bool) (n p j : ℕ) (qs : List ℕ) (bs : List bond.Bond) (before : List Role)
+ready : (v : ℕ → ℕ → Option BondMark) (r : ℕ → ℕ → Bool) (n p j : ℕ) (qs : List ℕ) (bs : List TextBond) (before : List Role)
     → p ≤ suc j → Gap p (suc j) qs → Behind v r n j (pending j (p ∷ qs)) bs before
     → Ready v r n p (suc j) (pending (suc j) qs) bs (onto_all (before_roles v (suc j) p qs) before)
 ready v r n zero j qs bs before le gap at = ready_dot v r n j qs bs before gap at
@@ -338,19 +338,19 @@ ready v r n (suc p) j qs bs before le gap at =
     let entered : List Role = onto_all (role_if_not (not (has (suc p) qs)) Enter) middle in
     let at' = open_branch v r n p j qs bs middle (has (suc p) qs) refl (omega arith) gap back in
     subst (λ (x : List Role). Ready v r n (suc p) (suc j) (pending (suc j) qs) bs x)
-    (sym (onto_append (role_if_not (suc p == suc j) Leave) (role_if_not (not (has (suc p) qs)) Enter ++ mark_roles (symbol_of (v p (suc j)))) before
-    ∙ onto_append (role_if_not (not (has (suc p) qs)) Enter) (mark_roles (symbol_of (v p (suc j)))) middle))
+    (sym (onto_append (role_if_not (suc p == suc j) Leave) (role_if_not (not (has (suc p) qs)) Enter ++ mark_roles (v p (suc j))) before
+    ∙ onto_append (role_if_not (not (has (suc p) qs)) Enter) (mark_roles (v p (suc j))) middle))
     (mark v r n p (suc j) (pending (suc j) qs) bs entered at')
 
 -- all is read, and no branch is open
-pub record ReadWhole (k : ℕ) (act : List Pair) (bs : List bond.Bond) (before : List Role) : Type 0 where
+pub record ReadWhole (k : ℕ) (act : List Pair) (bs : List TextBond) (before : List Role) : Type 0 where
   pub read : Read k [] act bs before
   pub ends : may_follow (latest before) None ≡ true
 
 piece_read : (a b c : List Role) (k : Role) (acc : List Role) → onto_all (a ++ (k ∷ (b ++ c))) acc ≡ onto_all c (onto_all b (k ∷ onto_all a acc))
 piece_read a b c k acc = onto_append a (k ∷ (b ++ c)) acc ∙ onto_append b c (k ∷ onto_all a acc)
 
-pub text_read : (v : ℕ → ℕ → ℕ) (r : ℕ → ℕ → Bool) (n j : ℕ) (qs : List ℕ) (bs : List bond.Bond) (before : List Role) → IsNested (suc (suc j)) qs
+pub text_read : (v : ℕ → ℕ → Option BondMark) (r : ℕ → ℕ → Bool) (n j : ℕ) (qs : List ℕ) (bs : List TextBond) (before : List Role) → IsNested (suc (suc j)) qs
     → Behind v r n j (pending j qs) bs before
     → ReadWhole (suc j + length qs) (active v r n (suc j + length qs)) (bs ++ bonds_from v r n (suc j) qs) (onto_all (text_roles v r n (suc j) qs) before)
 text_read v r n j [] bs before nested at =
@@ -368,26 +368,26 @@ text_read v r n j (p ∷ qs) bs before nested at =
     let middle : List Role = onto_all (before_roles v (suc j) p qs) before in
     let now = ready v r n p j qs bs before le gap at in
     let added = whole_atom v r n p (suc j) (pending (suc j) qs) bs middle now.read now.bond now.follows in
-    let rest = text_read v r n (suc j) qs ((bs ++ parent_bond v p (suc j)) ++ links (suc j) (closing v r n (suc j))) (onto_all (ring_roles v r n (suc j)) (Atom ∷ middle)) (nested_tail (suc (suc j)) p qs nested) added in
+    let rest = text_read v r n (suc j) qs ((bs ++ parent_bond v p (suc j)) ++ links (suc j) (closing v r n (suc j))) (onto_all (ring_roles v r n (suc j)) (Atom false ∷ middle)) (nested_tail (suc (suc j)) p qs nested) added in
     let e1 : suc (suc j) + length qs ≡ suc j + suc (length qs) = omega arith in
     let e3 : ((bs ++ parent_bond v p (suc j)) ++ links (suc j) (closing v r n (suc j))) ++ bonds_from v r n (suc (suc j)) qs ≡ bs ++ bonds_from v r n (suc j) (p ∷ qs)
     = append_assoc (bs ++ parent_bond v p (suc j)) (links (suc j) (closing v r n (suc j))) (bonds_from v r n (suc (suc j)) qs)
     ∙ append_assoc bs (parent_bond v p (suc j)) (links (suc j) (closing v r n (suc j)) ++ bonds_from v r n (suc (suc j)) qs) in
-    let e4 = sym (piece_read (before_roles v (suc j) p qs) (ring_roles v r n (suc j)) (text_roles v r n (suc (suc j)) qs) Atom before) in
+    let e4 = sym (piece_read (before_roles v (suc j) p qs) (ring_roles v r n (suc j)) (text_roles v r n (suc (suc j)) qs) (Atom false) before) in
     moved _ _ _ _ _ _ e1 e3 e4 rest
   where
-    moved : (k1 k2 : ℕ) (b1 b2 : List bond.Bond) (t1 t2 : List Role) → k1 ≡ k2 → b1 ≡ b2 → t1 ≡ t2 → ReadWhole k1 (active v r n k1) b1 t1 → ReadWhole k2 (active v r n k2) b2 t2
+    moved : (k1 k2 : ℕ) (b1 b2 : List TextBond) (t1 t2 : List Role) → k1 ≡ k2 → b1 ≡ b2 → t1 ≡ t2 → ReadWhole k1 (active v r n k1) b1 t1 → ReadWhole k2 (active v r n k2) b2 t2
     moved k1 k2 b1 b2 t1 t2 e1 e3 e4 h =
         subst (λ (x : ℕ). ReadWhole x (active v r n x) b2 t2) e1
-        (subst (λ (x : List bond.Bond). ReadWhole k1 (active v r n k1) x t2) e3
+        (subst (λ (x : List TextBond). ReadWhole k1 (active v r n k1) x t2) e3
         (subst (λ (x : List Role). ReadWhole k1 (active v r n k1) b1 x) e4 h))
 
 -- the whole text of at least one atom
-pub whole_read : (v : ℕ → ℕ → ℕ) (r : ℕ → ℕ → Bool) (n : ℕ) (qs : List ℕ) → IsNested 1 (0 ∷ qs)
+pub whole_read : (v : ℕ → ℕ → Option BondMark) (r : ℕ → ℕ → Bool) (n : ℕ) (qs : List ℕ) → IsNested 1 (0 ∷ qs)
     → ReadWhole (1 + length qs) (active v r n (1 + length qs)) (bonds_from v r n 0 (0 ∷ qs)) (onto_all (text_roles v r n 0 (0 ∷ qs)) [])
 whole_read v r n qs nested =
     let start : Read 0 [] [] [] [] = record { stack = refl; deep = refl; counted = refl; agrees = λ m. refl; clash = tt; bonds = refl; valid = tt } in
     let added = whole_atom v r n 0 0 [] [] [] start refl refl in
     subst (λ (x : List Role). ReadWhole (1 + length qs) (active v r n (1 + length qs)) (bonds_from v r n 0 (0 ∷ qs)) x)
-    (sym (onto_append (ring_roles v r n 0) (text_roles v r n 1 qs) (Atom ∷ [])))
-    (text_read v r n 0 qs (links 0 (closing v r n 0)) (onto_all (ring_roles v r n 0) (Atom ∷ [])) (nested_tail 1 0 qs nested) added)
+    (sym (onto_append (ring_roles v r n 0) (text_roles v r n 1 qs) (Atom false ∷ [])))
+    (text_read v r n 0 qs (links 0 (closing v r n 0)) (onto_all (ring_roles v r n 0) (Atom false ∷ [])) (nested_tail 1 0 qs nested) added)

@@ -11,7 +11,7 @@ use Rattle.smi_lex.specs.declared.token.TokenKind.TheVariants.{Bare}
 use Rattle.mc_elements.specs.declared.element.Element.TheVariants.{C}
 use Rattle.smi_mean.specs.Order.{graph_of, order, parents, atoms}
 use Rattle.smi_mean.specs.RingNumbers.{ending, kept, sorted, onto_all}
-use Rattle.smi_mean.specs.Written.{at, bond_order, has_ring, before_atom, atom_token, text_from, ring_tokens, closed_tokens, opened_tokens, spelling}
+use Rattle.smi_mean.specs.Written.{at, bond_symbol, has_ring, before_atom, atom_token, text_from, ring_tokens, closed_tokens, opened_tokens, spelling}
 use Rattle.smi_write.specs.declared.order.WrittenAtoms.{WrittenAtoms}
 use Rattle.smi_write.specs.declared.ring_numbers.OpenRing.{OpenRing}
 use Rattle.smi_write.specs.OpenRings.{Holds}
@@ -28,8 +28,8 @@ first_of xs k d less = let one : k + 1 ≡ suc k = omega arith in drop_more xs k
 -- the tokens of one atom and of those behind it
 abbrev pub TokensOf : Molecule → ℕ → List TokenKind
 TokensOf m k =
-    before_atom (λ j l. bond_order (graph_of m) j l) k (get_or (parents (order (graph_of m))) k 0) (drop (suc k) (parents (order (graph_of m))))
-    ++ (atom_token m (at (graph_of m) k) ∷ (ring_tokens (λ j l. bond_order (graph_of m) j l) (λ j l. has_ring (graph_of m) j l) (length m.atoms) k ++ rest_tokens m (suc k)))
+    before_atom (λ j l. bond_symbol (graph_of m) j l) k (get_or (parents (order (graph_of m))) k 0) (drop (suc k) (parents (order (graph_of m))))
+    ++ (atom_token m (at (graph_of m) k) ∷ (ring_tokens (λ j l. bond_symbol (graph_of m) j l) (λ j l. has_ring (graph_of m) j l) (length m.atoms) k ++ rest_tokens m (suc k)))
 
 rest_step : (m : Molecule) (k : ℕ) → k < length m.atoms → rest_tokens m k ≡ TokensOf m k
 rest_step m k less =
@@ -40,9 +40,9 @@ rest_step m k less =
     let t = first_of (map (atom_token m) (atoms (order (graph_of m)))) k (Bare C false) (omega arith) in
     let p = first_of (parents (order (graph_of m))) k 0 (omega arith) in
     let is = get_or-map (atom_token m) (atoms (order (graph_of m))) k 0 (Bare C false) (omega arith) in
-    ap (λ (ts : List TokenKind). text_from (λ j l. bond_order (graph_of m) j l) (λ j l. has_ring (graph_of m) j l) (length m.atoms) k ts (drop k (parents (order (graph_of m)))))
+    ap (λ (ts : List TokenKind). text_from (λ j l. bond_symbol (graph_of m) j l) (λ j l. has_ring (graph_of m) j l) (length m.atoms) k ts (drop k (parents (order (graph_of m)))))
     (t ∙ ap (λ (x : TokenKind). x ∷ drop (suc k) (map (atom_token m) (atoms (order (graph_of m))))) is)
-    ∙ ap (λ (qs : List ℕ). text_from (λ j l. bond_order (graph_of m) j l) (λ j l. has_ring (graph_of m) j l) (length m.atoms) k
+    ∙ ap (λ (qs : List ℕ). text_from (λ j l. bond_symbol (graph_of m) j l) (λ j l. has_ring (graph_of m) j l) (length m.atoms) k
     (atom_token m (at (graph_of m) k) ∷ drop (suc k) (map (atom_token m) (atoms (order (graph_of m))))) qs) p
 
 spelled : (b r s : List TokenKind) (t : TokenKind) → flat_map spelling (b ++ (t ∷ (r ++ s))) ≡ flat_map spelling b ++ (spelling t ++ (flat_map spelling r ++ flat_map spelling s))
@@ -54,22 +54,22 @@ joined old mid new b t r s s' e f g =
     ∙ append_assoc (old ++ (b ++ t)) r s ∙ append_assoc old (b ++ t) (r ++ s) ∙ ap (λ (x : List ℕ). old ++ x) (append_assoc b t (r ++ s))
 
 pub text_step : (m : Molecule) (w : WrittenAtoms) (k : ℕ) (old mid new whole : List ℕ) → IsWrittenOrder m w → k < length m.atoms
-    → mid ≡ old ++ (flat_map spelling (before_atom (λ j l. bond_order (graph_of m) j l) k (get_or w.parents.items k 0) (drop (k + 1) w.parents.items)) ++ spelling (atom_token m (at (graph_of m) k)))
+    → mid ≡ old ++ (flat_map spelling (before_atom (λ j l. bond_symbol (graph_of m) j l) k (get_or w.parents.items k 0) (drop (k + 1) w.parents.items)) ++ spelling (atom_token m (at (graph_of m) k)))
     → new ≡ mid ++ flat_map spelling (closed_tokens (sorted (ending k (open_pairs m k))) ++ opened_tokens (opened_pairs m (open_pairs m k) k (later_partners m k k)))
     → old ++ flat_map spelling (rest_tokens m k) ≡ whole → new ++ flat_map spelling (rest_tokens m (k + 1)) ≡ whole
 text_step m w k old mid new whole h less e f was =
     let one : k + 1 ≡ suc k = omega arith in
-    let e' : mid ≡ old ++ (flat_map spelling (before_atom (λ j l. bond_order (graph_of m) j l) k (get_or (parents (order (graph_of m))) k 0) (drop (suc k) (parents (order (graph_of m))))) ++ spelling (atom_token m (at (graph_of m) k))) =
-    e ∙ ap (λ (x : List ℕ). old ++ (flat_map spelling (before_atom (λ j l. bond_order (graph_of m) j l) k (get_or x k 0) (drop (k + 1) x)) ++ spelling (atom_token m (at (graph_of m) k)))) h.parents_are
-    ∙ ap (λ (n : ℕ). old ++ (flat_map spelling (before_atom (λ j l. bond_order (graph_of m) j l) k (get_or (parents (order (graph_of m))) k 0) (drop n (parents (order (graph_of m))))) ++ spelling (atom_token m (at (graph_of m) k)))) one in
+    let e' : mid ≡ old ++ (flat_map spelling (before_atom (λ j l. bond_symbol (graph_of m) j l) k (get_or (parents (order (graph_of m))) k 0) (drop (suc k) (parents (order (graph_of m))))) ++ spelling (atom_token m (at (graph_of m) k))) =
+    e ∙ ap (λ (x : List ℕ). old ++ (flat_map spelling (before_atom (λ j l. bond_symbol (graph_of m) j l) k (get_or x k 0) (drop (k + 1) x)) ++ spelling (atom_token m (at (graph_of m) k)))) h.parents_are
+    ∙ ap (λ (n : ℕ). old ++ (flat_map spelling (before_atom (λ j l. bond_symbol (graph_of m) j l) k (get_or (parents (order (graph_of m))) k 0) (drop n (parents (order (graph_of m))))) ++ spelling (atom_token m (at (graph_of m) k)))) one in
     joined old mid new
-    (flat_map spelling (before_atom (λ j l. bond_order (graph_of m) j l) k (get_or (parents (order (graph_of m))) k 0) (drop (suc k) (parents (order (graph_of m))))))
+    (flat_map spelling (before_atom (λ j l. bond_symbol (graph_of m) j l) k (get_or (parents (order (graph_of m))) k 0) (drop (suc k) (parents (order (graph_of m))))))
     (spelling (atom_token m (at (graph_of m) k)))
-    (flat_map spelling (ring_tokens (λ j l. bond_order (graph_of m) j l) (λ j l. has_ring (graph_of m) j l) (length m.atoms) k))
+    (flat_map spelling (ring_tokens (λ j l. bond_symbol (graph_of m) j l) (λ j l. has_ring (graph_of m) j l) (length m.atoms) k))
     (flat_map spelling (rest_tokens m (suc k)))
     (flat_map spelling (rest_tokens m (k + 1))) (ap (λ (n : ℕ). flat_map spelling (rest_tokens m n)) one) e' f
-    ∙ ap (λ (x : List ℕ). old ++ x) (sym (spelled (before_atom (λ j l. bond_order (graph_of m) j l) k (get_or (parents (order (graph_of m))) k 0) (drop (suc k) (parents (order (graph_of m)))))
-    (ring_tokens (λ j l. bond_order (graph_of m) j l) (λ j l. has_ring (graph_of m) j l) (length m.atoms) k) (rest_tokens m (suc k)) (atom_token m (at (graph_of m) k))))
+    ∙ ap (λ (x : List ℕ). old ++ x) (sym (spelled (before_atom (λ j l. bond_symbol (graph_of m) j l) k (get_or (parents (order (graph_of m))) k 0) (drop (suc k) (parents (order (graph_of m)))))
+    (ring_tokens (λ j l. bond_symbol (graph_of m) j l) (λ j l. has_ring (graph_of m) j l) (length m.atoms) k) (rest_tokens m (suc k)) (atom_token m (at (graph_of m) k))))
     ∙ ap (λ (x : List TokenKind). old ++ flat_map spelling x) (sym (rest_step m k less)) ∙ was
 
 pub pairs_step : (m : Molecule) (k : ℕ) (rings : List OpenRing) → Holds rings (onto_all (opened_pairs m (open_pairs m k) k (later_partners m k k)) (kept k (open_pairs m k)))

@@ -3,7 +3,7 @@ use Rattle.std.proofs.Common.{◌≡◌, ◌≢◌, ℕ, zero, suc, ◌+◌, ◌
 use Rattle.std.specs.Prelude.{◌==◌, ◌⊎◌, ◌&&◌, not, option_map}
 use Rattle.std.proofs.lemmas.Bool.{cases_lt, cases_eq, false≢true}
 use Rattle.std.proofs.lemmas.List.{length_push, get_or_push, get_or_append_left}
-use Rattle.smi_graph.specs.Bonds.{or_else}
+use Rattle.smi_graph.specs.Links.{or_else}
 use Rattle.smi_mean.specs.Order.{Graph, Step, least, is_written, unwritten_neighbour, behind, beginning, next_behind, next_step, onto, steps, place, parent_place, parents}
 use Rattle.smi_write.specs.Nested.{IsNested}
 use Rattle.smi_write.proofs.Least.{test_other, test_same, and_true, and_false, or_true, or_false, not_is, not_false, not_true, some_same, least_all, least_some}

@@ -3,13 +3,13 @@ use Rattle.std.specs.Prelude.{◌≡◌, ℕ, ◌&&◌, nat_lt, List, ◌++◌, 
 use Rattle.mc_mol.specs.Molecule.{Molecule}
 use Rattle.smi_mean.specs.Order.{graph_of}
 use Rattle.smi_mean.specs.RingNumbers.{Pair, passing, opened, onto_all}
-use Rattle.smi_mean.specs.Written.{spelling, opened_tokens, has_ring, bond_order}
+use Rattle.smi_mean.specs.Written.{spelling, opened_tokens, has_ring, bond_symbol}
 use Rattle.smi_write.specs.declared.ring_numbers.OpenRing.{OpenRing}
 use Rattle.smi_write.specs.OpenRings.{Holds}
 
 -- the pairs that open at an atom for these partners
 abbrev pub opened_pairs : Molecule → List Pair → ℕ → List ℕ → List Pair
-opened_pairs m pairs k ls = opened (λ j l. bond_order (graph_of m) j l) pairs k ls
+opened_pairs m pairs k ls = opened (λ j l. bond_symbol (graph_of m) j l) pairs k ls
 
 -- the partners of atom k's ring bonds behind a place
 abbrev pub later_partners : Molecule → ℕ → ℕ → List ℕ

@@ -1,5 +1,5 @@
 use crate::write::written_form;
-use mc_base::AtomId;
+use mc_base::{AtomId, Text};
 use mc_elements::Element;
 use mc_mol::{AddAtom, AddBond, Atom, Mol};
 use std::alloc::Global;
@@ -92,28 +92,33 @@ fn nothing(rt: HostRuntime) -> Result<(), Fail> {
     Ok(())
 }
 
+/// The text that is written of carbons with so many hydrogens each and these bonds.
+fn text_of_carbons(
+    alloc: Global,
+    hydrogens: &[u8],
+    bonds: &[(u32, u32, u8)],
+) -> Result<Text, Fail> {
+    let written = written_form(alloc, &carbons(alloc, hydrogens, bonds)?)?;
+    Ok(written.text)
+}
+
 #[test]
 fn branches_and_bonds(rt: HostRuntime) -> Result<(), Fail> {
-    let isobutane = carbons(
-        rt.alloc(),
-        &[3, 1, 3, 3],
-        &[(0, 1, 1), (1, 2, 1), (1, 3, 1)],
-    )?;
-    let branched = written_form(rt.alloc(), &isobutane)?;
-    assert_eq!(rt; branched.text.as_slice(), b"CC(C)C".as_slice());
-    let allene = carbons(rt.alloc(), &[2, 0, 2], &[(0, 1, 2), (1, 2, 2)])?;
-    let double = written_form(rt.alloc(), &allene)?;
-    assert_eq!(rt; double.text.as_slice(), b"C=C=C".as_slice());
-    let pair = carbons(rt.alloc(), &[0, 0, 1, 1], &[(0, 1, 4), (2, 3, 3)])?;
-    let parts = written_form(rt.alloc(), &pair)?;
-    assert_eq!(rt; parts.text.as_slice(), b"C$C.C#C".as_slice());
-    let isobutene = carbons(
-        rt.alloc(),
-        &[3, 0, 2, 3],
-        &[(0, 1, 1), (1, 2, 2), (1, 3, 1)],
-    )?;
-    let symbol = written_form(rt.alloc(), &isobutene)?;
-    assert_eq!(rt; symbol.text.as_slice(), b"CC(=C)C".as_slice());
+    let isobutane = [(0, 1, 1), (1, 2, 1), (1, 3, 1)];
+    let branched = text_of_carbons(rt.alloc(), &[3, 1, 3, 3], &isobutane)?;
+    assert_eq!(rt; branched.as_slice(), b"CC(C)C".as_slice());
+    let isobutene = [(0, 1, 1), (1, 2, 2), (1, 3, 1)];
+    let symbol = text_of_carbons(rt.alloc(), &[3, 0, 2, 3], &isobutene)?;
+    assert_eq!(rt; symbol.as_slice(), b"CC(=C)C".as_slice());
+    Ok(())
+}
+
+#[test]
+fn bonds_of_each_order(rt: HostRuntime) -> Result<(), Fail> {
+    let allene = text_of_carbons(rt.alloc(), &[2, 0, 2], &[(0, 1, 2), (1, 2, 2)])?;
+    assert_eq!(rt; allene.as_slice(), b"C=C=C".as_slice());
+    let pair = text_of_carbons(rt.alloc(), &[0, 0, 1, 1], &[(0, 1, 4), (2, 3, 3)])?;
+    assert_eq!(rt; pair.as_slice(), b"C$C.C#C".as_slice());
     Ok(())
 }
 
@@ -136,20 +141,20 @@ fn order_of_the_atoms(rt: HostRuntime) -> Result<(), Fail> {
 
 #[test]
 fn rings(rt: HostRuntime) -> Result<(), Fail> {
-    let three = carbons(rt.alloc(), &[2, 2, 2], &[(0, 1, 1), (1, 2, 1), (0, 2, 1)])?;
-    let ring = written_form(rt.alloc(), &three)?;
-    assert_eq!(rt; ring.text.as_slice(), b"C1CC1".as_slice());
-    let double = carbons(rt.alloc(), &[1, 2, 1], &[(0, 1, 1), (1, 2, 1), (0, 2, 2)])?;
-    let symbol = written_form(rt.alloc(), &double)?;
-    assert_eq!(rt; symbol.text.as_slice(), b"C=1CC1".as_slice());
+    let three = [(0, 1, 1), (1, 2, 1), (0, 2, 1)];
+    let ring = text_of_carbons(rt.alloc(), &[2, 2, 2], &three)?;
+    assert_eq!(rt; ring.as_slice(), b"C1CC1".as_slice());
+    let double = [(0, 1, 1), (1, 2, 1), (0, 2, 2)];
+    let symbol = text_of_carbons(rt.alloc(), &[1, 2, 1], &double)?;
+    assert_eq!(rt; symbol.as_slice(), b"C=1CC1".as_slice());
     Ok(())
 }
 
 #[test]
-fn two_rings(rt: HostRuntime) -> Result<(), Fail> {
+fn two_rings_with_an_atom_in_common(rt: HostRuntime) -> Result<(), Fail> {
     let fused = [(0, 1, 1), (1, 2, 1), (0, 2, 1), (2, 3, 1), (0, 3, 1)];
-    let one_atom = written_form(rt.alloc(), &carbons(rt.alloc(), &[1, 2, 1, 2], &fused)?)?;
-    assert_eq!(rt; one_atom.text.as_slice(), b"C12CC1C2".as_slice());
+    let bond = text_of_carbons(rt.alloc(), &[1, 2, 1, 2], &fused)?;
+    assert_eq!(rt; bond.as_slice(), b"C12CC1C2".as_slice());
     let spiro = [
         (0, 1, 1),
         (1, 2, 1),
@@ -158,8 +163,13 @@ fn two_rings(rt: HostRuntime) -> Result<(), Fail> {
         (3, 4, 1),
         (2, 4, 1),
     ];
-    let both = written_form(rt.alloc(), &carbons(rt.alloc(), &[2, 2, 0, 2, 2], &spiro)?)?;
-    assert_eq!(rt; both.text.as_slice(), b"C1CC12CC2".as_slice());
+    let atom = text_of_carbons(rt.alloc(), &[2, 2, 0, 2, 2], &spiro)?;
+    assert_eq!(rt; atom.as_slice(), b"C1CC12CC2".as_slice());
+    Ok(())
+}
+
+#[test]
+fn two_rings_apart(rt: HostRuntime) -> Result<(), Fail> {
     let apart = [
         (0, 1, 1),
         (1, 2, 1),
@@ -169,11 +179,8 @@ fn two_rings(rt: HostRuntime) -> Result<(), Fail> {
         (4, 5, 1),
         (3, 5, 1),
     ];
-    let again = written_form(
-        rt.alloc(),
-        &carbons(rt.alloc(), &[2, 2, 1, 1, 2, 2], &apart)?,
-    )?;
-    assert_eq!(rt; again.text.as_slice(), b"C1CC1C1CC1".as_slice());
+    let again = text_of_carbons(rt.alloc(), &[2, 2, 1, 1, 2, 2], &apart)?;
+    assert_eq!(rt; again.as_slice(), b"C1CC1C1CC1".as_slice());
     Ok(())
 }
 

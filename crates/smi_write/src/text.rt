@@ -6,7 +6,7 @@ ghost use Rattle.mc_mol.specs.WellFormed.{IsMolecule};
 ghost use Rattle.smi_lex.specs.declared.token.TokenKind.TheVariants.{Enter, Leave};
 ghost use Rattle.smi_mean.specs.Order.{graph_of, order, parents};
 ghost use Rattle.smi_mean.specs.RingNumbers.{has};
-ghost use Rattle.smi_mean.specs.Written.{at, bond_order, before_atom, atom_token, spelling, written_text, if_not, mark_tokens, symbol_of};
+ghost use Rattle.smi_mean.specs.Written.{at, bond_symbol, before_atom, atom_token, spelling, written_text, if_not, mark_tokens, symbol_of};
 ghost use Rattle.smi_write.specs.WrittenOrder.{IsWrittenOrder, LastChildren};
 
 use crate::atom_text::{push_atom, push_symbol};
@@ -60,7 +60,7 @@ fn push_before(
     requires molecule { IsMolecule mol.now }
     requires last { LastChildren written.now.parents.items (length mol.now.atoms) last.now }
     requires within { place < length mol.now.atoms }
-    ensures { OnOk result (text.new ≡ text.old ++ flat_map spelling (before_atom (λ j l. bond_order (graph_of mol.now) j l) place
+    ensures { OnOk result (text.new ≡ text.old ++ flat_map spelling (before_atom (λ j l. bond_symbol (graph_of mol.now) j l) place
         (slice_index_or written.now.parents.items place 0) (drop (place + 1) written.now.parents.items))) }
 {
     let parent = written.parents[place as usize];
@@ -86,7 +86,7 @@ fn push_place(
     requires sums { (u : ℕ) → get_or sums.now u 0 ≡ bond_sum mol.now.bonds u }
     requires last { LastChildren written.now.parents.items (length mol.now.atoms) last.now }
     requires within { place < length mol.now.atoms }
-    ensures { OnOk result (text.new ≡ text.old ++ (flat_map spelling (before_atom (λ j l. bond_order (graph_of mol.now) j l) place
+    ensures { OnOk result (text.new ≡ text.old ++ (flat_map spelling (before_atom (λ j l. bond_symbol (graph_of mol.now) j l) place
         (slice_index_or written.now.parents.items place 0) (drop (place + 1) written.now.parents.items))
         ++ spelling (atom_token mol.now (at (graph_of mol.now) place)))) }
 {

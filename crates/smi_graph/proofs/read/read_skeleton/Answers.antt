@@ -37,8 +37,14 @@ returns-in-Some-2-clause-err c =
     rw c.at-in-Some-2.ensures (beyond c.args.text.now _ _ c.in-Some-2.fault has (rw c.in_default.is at c.in_ok-fault.ensures)
     (rw (c.in-Some-2.is, c.deref.ensures.value, c.bonds.ensures) at c.in_ok-fault-2.ensures))
 
+pub new-requires : goal.new-requires
+new-requires c =
+    let has = has_all c.args.text.now c.in-Ok.reader c.in-Ok.ensures.has c.in-Ok.ensures.all c.in-Ok.ensures.whole c.if-not-reader.false in
+    rw c.into_bonds.ensures (nothing c.args.text.now _ _ has (rw c.in_default.is at c.in_ok-fault.ensures)
+    (rw (c.in_default-2.is, c.deref.ensures.value, c.bonds.ensures) at c.in_ok-fault-2.ensures)).limits
+
 pub returns-clause-ok : goal.returns-clause-ok
 returns-clause-ok c =
     let has = has_all c.args.text.now c.in-Ok.reader c.in-Ok.ensures.has c.in-Ok.ensures.all c.in-Ok.ensures.whole c.if-not-reader.false in
-    rw (c.new.ensures, c.into_bonds.ensures) (nothing c.args.text.now _ has (rw c.in_default.is at c.in_ok-fault.ensures)
+    rw (c.new.ensures, c.into_bonds.ensures) (nothing c.args.text.now _ _ has (rw c.in_default.is at c.in_ok-fault.ensures)
     (rw (c.in_default-2.is, c.deref.ensures.value, c.bonds.ensures) at c.in_ok-fault-2.ensures))

@@ -25,7 +25,7 @@ pub loop-token-preserved : goal.loop-token-preserved
 loop-token-preserved c =
     let (stands, moved) = c.in-Token.ensures.token in
     let text = c.loop-token.invariant.text in
-    let passed : ℕ = c.loop-token.reader.structure.builder.tokens in
+    let passed : ℕ = c.loop-token.reader.structure.tokens in
     let ahead = next_ahead c.args.text.now c.loop-token.lexer.text c.loop-token.lexer.at passed c.in-Token.token text stands c.loop-token.invariant.ahead in
     let next = next_of (tokens c.args.text.now) passed c.in-Token.token _ ahead in
     let at : c.next.new.self.at ≡ c.in-Token.token.span.to = ap (λ (cursor : Cursor). cursor.at) moved in
@@ -46,7 +46,7 @@ loop-token-preserved c =
 pub returns-in-End-clause-all : goal.returns-in-End-clause-all
 returns-in-End-clause-all c =
     let end = c.in-End.ensures.end.0 refl ∙ ap (λ (x : List ℕ). length x) c.loop-token.invariant.text in
-    let few = none_ahead (tokens c.args.text.now) c.loop-token.reader.structure.builder.tokens (sym c.loop-token.invariant.ahead ∙ all_read c.args.text.now c.loop-token.lexer.at end) in
+    let few = none_ahead (tokens c.args.text.now) c.loop-token.reader.structure.tokens (sym c.loop-token.invariant.ahead ∙ all_read c.args.text.now c.loop-token.lexer.at end) in
     let within = c.loop-token.invariant.has.within in
     omega arith
 

@@ -7,9 +7,9 @@ abbrev pub invariant-loop-token : goal.invariant-loop-token
 invariant-loop-token l = record {
   text : l.lexer.text ≡ l.text;
   inside : l.lexer.at ≤ length l.text;
-  ahead : tokens_from l.lexer.at 0 (drop l.lexer.at l.text) ≡ drop l.reader.structure.builder.tokens (tokens l.text);
+  ahead : tokens_from l.lexer.at 0 (drop l.lexer.at l.text) ≡ drop l.reader.structure.tokens (tokens l.text);
   rest : unread (drop l.lexer.at l.text) ≡ unread l.text;
-  few : l.reader.structure.builder.tokens ≤ l.lexer.at;
+  few : l.reader.structure.tokens ≤ l.lexer.at;
   has : HasRead (tokens l.text) l.reader;
   bounded : IsBounded l.reader.structure;
 }

@@ -1,5 +1,5 @@
 use Rattle.std.proofs.Common.{slice_get}
-use Rattle.smi_graph.specs.Reading.{NoneBelow}
+use Rattle.smi_graph.specs.Firsts.{NoneBelow}
 use Rattle.smi_mean.specs.Rules.{is_hydrogen_with_more}
 use Rattle.smi_mean.proofs.faults.first_hydrogen_on_hydrogen.Given as goal
 

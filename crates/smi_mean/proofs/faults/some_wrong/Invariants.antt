@@ -1,4 +1,4 @@
-use Rattle.smi_graph.specs.Reading.{NoneBelow}
+use Rattle.smi_graph.specs.Firsts.{NoneBelow}
 use Rattle.smi_mean.specs.Meaning.{without_stereo}
 use Rattle.smi_mean.specs.Rules.{overvalent_at, hydrogen_on_hydrogen_at}
 use Rattle.smi_mean.proofs.faults.some_wrong.Given as goal

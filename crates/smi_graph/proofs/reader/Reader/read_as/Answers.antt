@@ -3,27 +3,27 @@ use Rattle.std.specs.List.{list_all}
 use Rattle.std.proofs.lemmas.List.{length-map}
 use Rattle.std.proofs.lemmas.List.Folds.{list_all-append}
 use Rattle.smi_lex.specs.declared.token.Token.{Token}
-use Rattle.smi_graph.specs.declared.skeleton.SkelAtom.{SkelAtom}
+use Rattle.smi_graph.specs.declared.skel_atom.SkelAtom.{SkelAtom}
 use Rattle.smi_graph.specs.Roles.{role_of, roles, atom_of, atoms_of}
-use Rattle.smi_graph.specs.Reading.{held_atom, is_light}
+use Rattle.smi_graph.specs.Reading.{held_atom, is_within_limits}
 use Rattle.smi_graph.specs.Rules.{is_built_kind}
 use Rattle.smi_graph.proofs.Ahead.{next_of, take_next, map_here, all_more, held_more}
 use Rattle.smi_graph.proofs.reader.Reader.read_as.Goals as goal
 
 pub returns-clause-has : goal.returns-clause-has
 returns-clause-has c = λ ts later ahead has.
-    let i : ℕ = c.args.self.now.structure.builder.tokens in
+    let i : ℕ = c.args.self.now.structure.tokens in
     let next = next_of ts i c.args.token later ahead in
     let within = next.within in
     let more = c.in_ok-read.ensures.tokens in
-    let taken : take c.read.new.self.builder.tokens ts ≡ take i ts ++ c.args.token ∷ [] = ap (λ (n : ℕ). take n ts) more ∙ take_next ts i c.args.token later ahead in
+    let taken : take c.read.new.self.tokens ts ≡ take i ts ++ c.args.token ∷ [] = ap (λ (n : ℕ). take n ts) more ∙ take_next ts i c.args.token later ahead in
     let count = length-map ts (λ (token : Token). role_of token.kind) in
     record {
       within = omega arith;
       atoms = c.in_ok-push_atom.ensures ∙ (ap (λ (x : List SkelAtom). x ++ map held_atom (atom_of c.args.token.kind c.args.token.span)) has.atoms
           ∙ (sym (held_more (take i ts) c.args.token) ∙ ap (λ (x : List Token). map held_atom (atoms_of x)) (sym taken)));
-      light = c.both-self.ensures ∙ (rw (has.light, c.is_within.ensures c.args.token.span) refl
-          ∙ (sym (list_all-append is_light c.args.self.now.atoms.items (map held_atom (atom_of c.args.token.kind c.args.token.span))) ∙ ap (list_all is_light) (sym c.in_ok-push_atom.ensures)));
+      within_limits = c.both-self.ensures ∙ (rw (has.within_limits, c.is_within.ensures c.args.token.span) refl
+          ∙ (sym (list_all-append is_within_limits c.args.self.now.atoms.items (map held_atom (atom_of c.args.token.kind c.args.token.span))) ∙ ap (list_all is_within_limits) (sym c.in_ok-push_atom.ensures)));
       built = c.both-self-2.ensures ∙ (rw (has.built, c.is_built_kind.ensures) refl
           ∙ (sym (all_more (λ (token : Token). is_built_kind token.kind) (take i ts) c.args.token) ∙ ap (list_all (λ (token : Token). is_built_kind token.kind)) (sym taken)));
       follows = c.in_ok-read.ensures.follows (roles ts) c.args.role (omega arith)

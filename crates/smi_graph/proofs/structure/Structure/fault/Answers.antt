@@ -20,7 +20,7 @@ returns-in-Some-clash c =
     let order = c.in_default.ensures ks c.requires.all c.requires.follows in
     let closed = rw c.in_default-2.is at c.in_ok-i.ensures.first in
     let rings = c.in_default-first_open.ensures ks c.requires.all c.requires.follows in
-    let clash = rw (c.requires.all, c.in-Some-clash.is) at c.requires.follows.clash in
+    let clash = rw (c.requires.all, c.in-Some-clash.is) at c.requires.follows.faults.clash in
     shows_clash ks c.in-Some-clash.place order closed rings clash
 
 pub returns-in-Some-pair : goal.returns-in-Some-pair
@@ -29,8 +29,8 @@ returns-in-Some-pair c =
     let order = c.in_default.ensures ks c.requires.all c.requires.follows in
     let closed = rw c.in_default-2.is at c.in_ok-i.ensures.first in
     let rings = c.in_default-first_open.ensures ks c.requires.all c.requires.follows in
-    let clash = rw (c.requires.all, c.in_default-clash.is) at c.requires.follows.clash in
-    let pair = rw (c.requires.all, c.in-Some-pair.is) at c.requires.follows.pair in
+    let clash = rw (c.requires.all, c.in_default-clash.is) at c.requires.follows.faults.clash in
+    let pair = rw (c.requires.all, c.in-Some-pair.is) at c.requires.follows.faults.pair in
     shows_pair ks c.in-Some-pair.place order closed rings clash pair
 
 pub returns : goal.returns
@@ -39,6 +39,6 @@ returns c =
     let order = c.in_default.ensures ks c.requires.all c.requires.follows in
     let closed = rw c.in_default-2.is at c.in_ok-i.ensures.first in
     let rings = c.in_default-first_open.ensures ks c.requires.all c.requires.follows in
-    let clash = rw (c.requires.all, c.in_default-clash.is) at c.requires.follows.clash in
-    let pair = rw (c.requires.all, c.in_default-pair.is) at c.requires.follows.pair in
+    let clash = rw (c.requires.all, c.in_default-clash.is) at c.requires.follows.faults.clash in
+    let pair = rw (c.requires.all, c.in_default-pair.is) at c.requires.follows.faults.pair in
     shows_none ks order closed rings clash pair

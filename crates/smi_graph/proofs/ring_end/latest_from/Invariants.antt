@@ -1,8 +1,0 @@
-use Rattle.std.proofs.Common.{◌≤◌, length}
-use Rattle.smi_graph.proofs.ring_end.latest_from.Given as goal
-
-abbrev pub invariant-loop-from : goal.invariant-loop-from
-invariant-loop-from l = l.from ≤ length l.bonds
-
-abbrev pub decreases-loop-from : goal.decreases-loop-from
-decreases-loop-from l = l.from
