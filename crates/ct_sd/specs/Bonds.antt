@@ -1,0 +1,21 @@
+-- The types of bonds, and the atoms that they name.
+use Rattle.std.specs.Prelude.{ℕ, ◌==◌, Bool, false, ◌&&◌, ◌||◌, nat_le, List, [], ◌∷◌, ◌++◌}
+use Rattle.std.specs.List.{list_any}
+use Rattle.mc_base.specs.declared.kind.Kind.{Kind}
+use Rattle.mc_base.specs.declared.kind.Kind.TheVariants.{Query, BondType}
+use Rattle.ct_sd.specs.Faults.{shown_if}
+
+-- types 1 to 3 are orders, 4 to 8 are queries, and 9 and 10 have no order
+abbrev pub type_shows : ℕ → List Kind
+type_shows type = shown_if (nat_le 4 type && nat_le type 8) Query ++ shown_if (nat_le 9 type) BondType
+
+-- a pair of atoms that a bond names
+abbrev pub Pair : Type 0
+Pair = ℕ × ℕ
+
+abbrev pub is_pair : ℕ → ℕ → Pair → Bool
+is_pair u v pair = (pair.0 == u && pair.1 == v) || (pair.0 == v && pair.1 == u)
+
+-- a pair stands among these
+abbrev pub is_joined : ℕ → ℕ → List Pair → Bool
+is_joined u v pairs = list_any (λ pair. is_pair u v pair) pairs
