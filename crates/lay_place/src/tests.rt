@@ -1,0 +1,5 @@
+mod read_back;
+mod skeletons;
+mod small_graphs;
+mod stereo;
+mod thrown;
