@@ -3,7 +3,7 @@ use Rattle.std.proofs.Common.{arith, ◌≡◌, ◌∙◌, ℕ, List, [], ◌∷
 use Rattle.std.specs.List.{list_all}
 use Rattle.std.specs.Prelude.{◌↔◌, ◌<◌, ◌||◌, ◌==◌, IsTrue, not, nat_le, if◌then◌else◌, filter, map, cond, Option, Some, None}
 use Rattle.std.proofs.lemmas.Bool.Decides.{nat_tests}
-use Rattle.std.proofs.lemmas.Bool.{false≢true}
+use Rattle.std.proofs.lemmas.Bool.{false≢true, and_parts}
 use Rattle.mc_base.specs.declared.kind.Kind.{Kind}
 use Rattle.mc_base.specs.declared.kind.Kind.TheVariants.{LineTooLong}
 use Rattle.mc_base.specs.declared.refusal.Refusal.{Refusal}
@@ -11,7 +11,6 @@ use Rattle.mc_base.specs.Kinds.{number}
 use Rattle.mc_io.specs.Lines.{line_feed, carriage_return, onto_first, pieces, onto_text, text_of as line_text_of, has_feed, IsLineText}
 use Rattle.mc_mol.specs.Molecule.{Molecule}
 use Rattle.mc_report.specs.Report.{refused_line}
-use Rattle.smi_lex.proofs.Sound.{both_true}
 use Rattle.smi_mean.specs.Lines.{is_blank, text_of, name_of}
 use Rattle.smi_mean.specs.Rules.{SmilesStands}
 use Rattle.smi_mean.specs.Written.{written_text}
@@ -65,7 +64,7 @@ name_text (b ∷ bytes) h = by_test (is_blank b) (text_behind b bytes h) (name_t
 alone_text : (text : List ℕ) → are_high text ≡ true → IsLineText text
 alone_text [] h = record { one = refl; ends = refl }
 alone_text (b ∷ bs) h =
-    let both = both_true (nat_le 33 b) (are_high bs) h in
+    let both = and_parts (nat_le 33 b) (are_high bs) h in
     let later = alone_text bs both.1 in record {
       one = rw (no_feed_high b both.0) later.one;
       ends = onto b bs (no_return_high b both.0) later.ends;
@@ -79,7 +78,7 @@ alone_text (b ∷ bs) h =
 text_with : (text : List ℕ) (c : ℕ) (more : List ℕ) → are_high text ≡ true → IsLineText (c ∷ more) → IsLineText (text ++ c ∷ more)
 text_with [] c more h behind = behind
 text_with (b ∷ bs) c more h behind =
-    let both = both_true (nat_le 33 b) (are_high bs) h in
+    let both = and_parts (nat_le 33 b) (are_high bs) h in
     let later = text_with bs c more both.1 behind in record {
       one = rw (no_feed_high b both.0) later.one;
       ends = onto b bs later.ends;
@@ -128,7 +127,7 @@ not_blank b h = by_test (is_blank b) h
 text_alone : (text : List ℕ) → list_all (λ byte. not (is_blank byte)) text ≡ true → (text_of text ≡ text) × (name_of text ≡ [])
 text_alone [] h = (refl, refl)
 text_alone (b ∷ bs) h =
-    let both = both_true (not (is_blank b)) (list_all (λ byte. not (is_blank byte)) bs) h in
+    let both = and_parts (not (is_blank b)) (list_all (λ byte. not (is_blank byte)) bs) h in
     let rest = text_alone bs both.1 in
     let t = not_blank b both.0 in
     (ap (λ (x : Bool). if x then [] else b ∷ text_of bs) t ∙ ap (λ (x : List ℕ). b ∷ x) rest.0, ap (λ (x : Bool). if x then bs else name_of bs) t ∙ rest.1)
@@ -136,7 +135,7 @@ text_alone (b ∷ bs) h =
 text_before : (text name : List ℕ) → list_all (λ byte. not (is_blank byte)) text ≡ true → (text_of (text ++ 32 ∷ name) ≡ text) × (name_of (text ++ 32 ∷ name) ≡ name)
 text_before [] name h = (refl, refl)
 text_before (b ∷ bs) name h =
-    let both = both_true (not (is_blank b)) (list_all (λ byte. not (is_blank byte)) bs) h in
+    let both = and_parts (not (is_blank b)) (list_all (λ byte. not (is_blank byte)) bs) h in
     let rest = text_before bs name both.1 in
     let t = not_blank b both.0 in
     (ap (λ (x : Bool). if x then [] else b ∷ text_of (bs ++ 32 ∷ name)) t ∙ ap (λ (x : List ℕ). b ∷ x) rest.0, ap (λ (x : Bool). if x then bs ++ 32 ∷ name else name_of (bs ++ 32 ∷ name)) t ∙ rest.1)
@@ -147,7 +146,7 @@ high b h = grind (arith, nat_tests)
 
 no_blanks : (text : List ℕ) → list_all (λ byte. nat_le 33 byte) text ≡ true → list_all (λ byte. not (is_blank byte)) text ≡ true
 no_blanks [] h = refl
-no_blanks (b ∷ bs) h = let both = both_true (nat_le 33 b) (list_all (λ byte. nat_le 33 byte) bs) h in rw (high b both.0, no_blanks bs both.1) refl
+no_blanks (b ∷ bs) h = let both = and_parts (nat_le 33 b) (list_all (λ byte. nat_le 33 byte) bs) h in rw (high b both.0, no_blanks bs both.1) refl
 
 pub parts_of : (text name : List ℕ) → list_all (λ byte. not (is_blank byte)) text ≡ true → (text_of (with_name text name) ≡ text) × (name_of (with_name text name) ≡ name)
 parts_of [] name h = (refl, refl)

@@ -4,11 +4,11 @@ use Rattle.std.specs.Prelude.{◌⊎◌, ◌↔◌, IsTrue}
 use Rattle.std.specs.Io.KnownBytes.{Appends}
 use Rattle.std.proofs.lemmas.Bool.{false≢true}
 use Rattle.std.proofs.lemmas.List.{length-append}
+use Rattle.mc_io.specs.Outside.{Input, Outputs}
 use Rattle.mc_convert.specs.declared.status.Halt.{Halt}
 use Rattle.mc_convert.specs.declared.status.Halt.TheVariants.{ReadFault as ReadHalt, InputLimit as LimitHalt, WriteFault as WriteHalt, NoMemory as MemoryHalt}
-use Rattle.mc_convert.specs.declared.status.Status.TheVariants.{Done, SomeRefused, Memory}
-use Rattle.mc_convert.specs.Readers.{Told}
-use Rattle.mc_convert.specs.Runs.{Held}
+use Rattle.mc_convert.specs.declared.status.Status.TheVariants.{Memory}
+use Rattle.mc_convert.specs.Runs.{IsWhole}
 use Rattle.mc_convert.specs.Statuses.{status_of}
 use Rattle.mc_convert.specs.Checks.{IsAllTrue}
 use Rattle.mc_convert.specs.CheckRuns.{AllIsChecked, ChecksLess, CheckStopped, GrownBy, IfKnown, IsLessThanText}
@@ -32,16 +32,16 @@ not_all o c r old new some all =
     let bound = less.holds all.text all.whole in
     let same = same_growth old new all.before all.text less.more all.old_is all.new_is less.out in omega arith
 
-abbrev AllEnded : (ℕ → Told) → Type 0
+abbrev AllEnded : (ℕ → Input) → Type 0
 AllEnded after = (i : ℕ) → i < 3 → IsTrue (after i).ended
 
 -- no stop but want of memory comes where all is held
-pub only_memory : (halt : Halt) (before after : ℕ → Told) (old new : Held) → CheckStopped halt before after old new → AllEnded after
-    → AllIsChecked (before 0).left (before 1).left (before 2).left old.out new.out → (status_of halt ≡ Done) ⊎ ((status_of halt ≡ SomeRefused) ⊎ (status_of halt ≡ Memory))
+pub only_memory : (halt : Halt) (before after : ℕ → Input) (old new : Outputs) → CheckStopped halt before after old new → AllEnded after
+    → AllIsChecked (before 0).left (before 1).left (before 2).left (old.held 0) (new.held 0) → IsWhole (status_of halt) ⊎ (status_of halt ≡ Memory)
 only_memory ReadHalt before after old new h ended all = absurd (false≢true (sym h.not_ended ∙ ended h.input h.is_input))
 only_memory LimitHalt before after old new h ended all = absurd (false≢true (sym h.not_ended ∙ ended h.input h.is_input))
-only_memory WriteHalt before after old new h ended all = absurd (not_all (before 0).left (before 1).left (before 2).left old.out new.out h.1 all)
-only_memory MemoryHalt before after old new h ended all = inr (inr refl)
+only_memory WriteHalt before after old new h ended all = absurd (not_all (before 0).left (before 1).left (before 2).left (old.held 0) (new.held 0) h.1 all)
+only_memory MemoryHalt before after old new h ended all = inr refl
 
 pub is_true : (o c r : Option (List ℕ)) → IfKnown o c r (λ x y z. IsTrue true ↔ IsAllTrue x y z) → IfKnown o c r IsAllTrue
 is_true o c r h = if_known o c r (λ x y z. IsTrue true ↔ IsAllTrue x y z) IsAllTrue (λ x y z both. both.0 refl) h

@@ -3,8 +3,8 @@ use Rattle.std.proofs.Common.{arith, ◌≡◌, ℕ, zero, suc, ◌<◌, ◌≤�
 use Rattle.std.specs.Prelude.{Ok, Err, Bool, IsTrue}
 use Rattle.mc_io.specs.declared.whole.ReadStop.{ReadStop}
 use Rattle.mc_io.specs.declared.whole.ReadStop.TheVariants.{ReadFault, InputLimit, NoMemory}
-use Rattle.mc_io.specs.Outside.{SameBut}
-use Rattle.mc_io.specs.LineReader.{LineReader, MayGoOn, ahead, ahead_of}
+use Rattle.mc_io.specs.Outside.{SameBut, Input}
+use Rattle.mc_io.specs.LineReader.{LineReader, MayGoOn, ahead, ahead_of, Reading}
 use Rattle.mc_io.specs.Lines.{lines_of}
 use Rattle.mc_convert.specs.declared.check_readers.CheckReaders.{CheckReaders}
 use Rattle.mc_convert.specs.declared.status.Halt.{Halt}
@@ -12,7 +12,7 @@ use Rattle.mc_convert.specs.declared.status.Halt.TheVariants.{ReadFault as ReadF
 use Rattle.mc_convert.specs.declared.records.NextLine.{NextLine}
 use Rattle.mc_convert.specs.declared.records.NextLine.TheVariants.{Line, TooLong, End}
 use Rattle.mc_convert.specs.Records.{records}
-use Rattle.mc_convert.specs.Readers.{Told, Reading, HasEnded, GivesRecord, GivesLine}
+use Rattle.mc_convert.specs.Readers.{HasEnded, GivesRecord, GivesLine}
 use Rattle.mc_convert.specs.Statuses.{halt_of}
 use Rattle.mc_convert.specs.Findings.{met}
 use Rattle.mc_convert.specs.Checks.{first}
@@ -20,8 +20,8 @@ use Rattle.mc_convert.specs.CheckSteps.{fresh_readers, MayRead, MayReadOn, AreWi
 use Rattle.mc_convert.proofs.ReaderSteps.{reading_none, reading_trans, rose_later}
 
 -- a reader that wasn't used
-kept : (a b : LineReader) (x y : Told) → b ≡ a → y ≡ x → Reading a b x y
-kept a b x y e f = subst (λ (z : Told). Reading a b x z) (sym f) (subst (λ (z : LineReader). Reading a z x x) (sym e) (reading_none a x))
+kept : (a b : LineReader) (x y : Input) → b ≡ a → y ≡ x → Reading a b x y
+kept a b x y e f = subst (λ (z : Input). Reading a b x z) (sym f) (subst (λ (z : LineReader). Reading a z x x) (sym e) (reading_none a x))
 
 -- what is within the limit, where one of the readers was used
 with_others : (limit : ℕ) (old new : CheckReaders) → new.originals.taken ≤ limit → MayRead limit old → new.converted ≡ old.converted → new.report ≡ old.report → AreWithin limit new
@@ -49,7 +49,7 @@ pub all_within : (limit : ℕ) (readers : CheckReaders) → MayRead limit reader
 all_within limit readers may = record { originals = may.originals.within; converted = may.converted.within; report = may.report.within }
 
 -- a step of the originals' reader
-pub originals_advance : (old new : CheckReaders) (before after : ℕ → Told) → Reading old.originals new.originals (before 0) (after 0) → new.converted ≡ old.converted → new.report ≡ old.report
+pub originals_advance : (old new : CheckReaders) (before after : ℕ → Input) → Reading old.originals new.originals (before 0) (after 0) → new.converted ≡ old.converted → new.report ≡ old.report
     → SameBut 0 before after → Advance old new before after
 originals_advance old new before after reading same_converted same_report same = record {
   originals = reading;
@@ -58,7 +58,7 @@ originals_advance old new before after reading same_converted same_report same =
   others = λ i from. same i (λ e. omega arith);
 }
 
-pub converted_advance : (old new : CheckReaders) (before after : ℕ → Told) → Reading old.converted new.converted (before 1) (after 1) → new.originals ≡ old.originals → new.report ≡ old.report
+pub converted_advance : (old new : CheckReaders) (before after : ℕ → Input) → Reading old.converted new.converted (before 1) (after 1) → new.originals ≡ old.originals → new.report ≡ old.report
     → SameBut 1 before after → Advance old new before after
 converted_advance old new before after reading same_originals same_report same = record {
   originals = kept old.originals new.originals (before 0) (after 0) same_originals (same 0 (λ e. omega arith));
@@ -67,7 +67,7 @@ converted_advance old new before after reading same_originals same_report same =
   others = λ i from. same i (λ e. omega arith);
 }
 
-pub report_advance : (old new : CheckReaders) (before after : ℕ → Told) → Reading old.report new.report (before 2) (after 2) → new.originals ≡ old.originals → new.converted ≡ old.converted
+pub report_advance : (old new : CheckReaders) (before after : ℕ → Input) → Reading old.report new.report (before 2) (after 2) → new.originals ≡ old.originals → new.converted ≡ old.converted
     → SameBut 2 before after → Advance old new before after
 report_advance old new before after reading same_originals same_converted same = record {
   originals = kept old.originals new.originals (before 0) (after 0) same_originals (same 0 (λ e. omega arith));
@@ -81,19 +81,19 @@ may_read_on input limit old new may same on within = record { number = same ∙ 
 
 -- ---- a stop
 
-pub originals_halts : (limit : ℕ) (stop : ReadStop) (old new : CheckReaders) (before after : ℕ → Told) → HasEnded limit (Err stop) new.originals (before 0) (after 0) → MayRead limit old
+pub originals_halts : (limit : ℕ) (stop : ReadStop) (old new : CheckReaders) (before after : ℕ → Input) → HasEnded limit (Err stop) new.originals (before 0) (after 0) → MayRead limit old
     → new.converted ≡ old.converted → new.report ≡ old.report → ReadHalts limit (halt_of stop) new before after
 originals_halts limit ReadFault old new before after (within, rose, ended) may c r = (with_others limit old new within may c r, record { input = 0; is_input = omega arith; rose = rose; not_ended = ended })
 originals_halts limit InputLimit old new before after (past, ended) may c r = (inl past, record { input = 0; is_input = omega arith; not_ended = ended })
 originals_halts limit NoMemory old new before after within may c r = with_others limit old new within may c r
 
-pub converted_halts : (limit : ℕ) (stop : ReadStop) (old new : CheckReaders) (before after : ℕ → Told) → HasEnded limit (Err stop) new.converted (before 1) (after 1) → MayRead limit old
+pub converted_halts : (limit : ℕ) (stop : ReadStop) (old new : CheckReaders) (before after : ℕ → Input) → HasEnded limit (Err stop) new.converted (before 1) (after 1) → MayRead limit old
     → new.originals ≡ old.originals → new.report ≡ old.report → ReadHalts limit (halt_of stop) new before after
 converted_halts limit ReadFault old new before after (within, rose, ended) may o r = (with_two limit old new within may o r, record { input = 1; is_input = omega arith; rose = rose; not_ended = ended })
 converted_halts limit InputLimit old new before after (past, ended) may o r = (inr (inl past), record { input = 1; is_input = omega arith; not_ended = ended })
 converted_halts limit NoMemory old new before after within may o r = with_two limit old new within may o r
 
-pub report_halts : (limit : ℕ) (stop : ReadStop) (old new : CheckReaders) (before after : ℕ → Told) → HasEnded limit (Err stop) new.report (before 2) (after 2) → MayRead limit old
+pub report_halts : (limit : ℕ) (stop : ReadStop) (old new : CheckReaders) (before after : ℕ → Input) → HasEnded limit (Err stop) new.report (before 2) (after 2) → MayRead limit old
     → new.originals ≡ old.originals → new.converted ≡ old.converted → ReadHalts limit (halt_of stop) new before after
 report_halts limit ReadFault old new before after (within, rose, ended) may o c = (with_three limit old new within may o c, record { input = 2; is_input = omega arith; rose = rose; not_ended = ended })
 report_halts limit InputLimit old new before after (past, ended) may o c = (inr (inr past), record { input = 2; is_input = omega arith; not_ended = ended })
@@ -126,18 +126,18 @@ line_first End (Some all) (Some rest) text (none_ahead, none_left) known =
 pub ahead_known : (reader : LineReader) (left : Option (List ℕ)) → IsTrue reader.ended → (held : List ℕ) × (ahead reader left ≡ Some held)
 ahead_known reader left ended = (reader.held, ap (λ (x : Bool). ahead_of x reader.held left) ended)
 
-ended_at_end : (limit : ℕ) (next : NextLine) (reader : LineReader) (before after : Told) → HasEnded limit (Ok next) reader before after → next ≡ End → IsTrue reader.ended
+ended_at_end : (limit : ℕ) (next : NextLine) (reader : LineReader) (before after : Input) → HasEnded limit (Ok next) reader before after → next ≡ End → IsTrue reader.ended
 ended_at_end limit Line reader before after h e = cc
 ended_at_end limit TooLong reader before after h e = cc
 ended_at_end limit End reader before after h e = h.1
 
-pub line_taken : (limit : ℕ) (next : NextLine) (all left : Option (List ℕ)) (reader : LineReader) (before after : Told) → GivesLine (Ok next) all (ahead reader left) reader.text
+pub line_taken : (limit : ℕ) (next : NextLine) (all left : Option (List ℕ)) (reader : LineReader) (before after : Input) → GivesLine (Ok next) all (ahead reader left) reader.text
     → HasEnded limit (Ok next) reader before after → TakesFirst lines_of all (ahead reader left) (met next reader.text)
 line_taken limit next all left reader before after gives ended = line_first next all (ahead reader left) reader.text gives (λ e. ahead_known reader left (ended_at_end limit next reader before after ended e))
 
 -- ---- several steps
 
-pub advance_trans : (a b c : CheckReaders) (x y z : ℕ → Told) → Advance a b x y → Advance b c y z → Advance a c x z
+pub advance_trans : (a b c : CheckReaders) (x y z : ℕ → Input) → Advance a b x y → Advance b c y z → Advance a c x z
 advance_trans a b c x y z p q = record {
   originals = reading_trans a.originals b.originals c.originals (x 0) (y 0) (z 0) p.originals q.originals;
   converted = reading_trans a.converted b.converted c.converted (x 1) (y 1) (z 1) p.converted q.converted;
@@ -146,14 +146,14 @@ advance_trans a b c x y z p q = record {
 }
 
 -- faults of the three inputs never fall
-pub advance_later : (a b : CheckReaders) (x y : ℕ → Told) → Advance a b x y → (i : ℕ) → i < 3 → (x i).faults ≤ (y i).faults
-advance_later a b x y p zero less = p.originals.later
-advance_later a b x y p (suc zero) less = p.converted.later
-advance_later a b x y p (suc (suc zero)) less = p.report.later
+pub advance_later : (a b : CheckReaders) (x y : ℕ → Input) → Advance a b x y → (i : ℕ) → i < 3 → (x i).faults ≤ (y i).faults
+advance_later a b x y p zero less = p.originals.takes.later
+advance_later a b x y p (suc zero) less = p.converted.takes.later
+advance_later a b x y p (suc (suc zero)) less = p.report.takes.later
 advance_later a b x y p (suc (suc (suc i))) less = absurd (omega arith)
 
 -- a stop behind other steps
-pub halts_later : (limit : ℕ) (halt : Halt) (a b c : CheckReaders) (x y z : ℕ → Told) → Advance a b x y → ReadHalts limit halt c y z → ReadHalts limit halt c x z
+pub halts_later : (limit : ℕ) (halt : Halt) (a b c : CheckReaders) (x y z : ℕ → Input) → Advance a b x y → ReadHalts limit halt c y z → ReadHalts limit halt c x z
 halts_later limit ReadFailedHalt a b c x y z p (within, failed) = (within, record { input = failed.input; is_input = failed.is_input; rose = rose_later (x failed.input).faults (y failed.input).faults (z failed.input).faults (advance_later a b x y p failed.input failed.is_input) failed.rose; not_ended = failed.not_ended })
 halts_later limit LimitHalt a b c x y z p h = h
 halts_later limit MemoryHalt a b c x y z p h = h
@@ -163,7 +163,7 @@ halts_later limit WriteHalt a b c x y z p h = h
 pub ahead_kept : (a b : LineReader) (l m : Option (List ℕ)) → b ≡ a → m ≡ l → ahead b m ≡ ahead a l
 ahead_kept a b l m e f = ap (λ (r : LineReader). ahead r m) e ∙ ap (λ (x : Option (List ℕ)). ahead a x) f
 
-pub advance_none : (readers : CheckReaders) (now : ℕ → Told) → Advance readers readers now now
+pub advance_none : (readers : CheckReaders) (now : ℕ → Input) → Advance readers readers now now
 advance_none readers now = record {
   originals = reading_none readers.originals (now 0);
   converted = reading_none readers.converted (now 1);

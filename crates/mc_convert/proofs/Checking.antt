@@ -1,32 +1,30 @@
 -- How far a check is, and what it has written.
-use Rattle.std.proofs.Common.{arith, ◌≡◌, ℕ, zero, suc, ◌+◌, ◌-◌, ◌^◌, ◌<◌, ◌≤◌, List, [], ◌∷◌, ◌++◌, length, take, drop, Bool, true, false, Option, Some, None, refl, ap, sym, ◌∙◌, subst, inl, inr}
-use Rattle.std.specs.Prelude.{◌&&◌, ◌↔◌, not, IfSome, IsTrue, Result, Ok, Err}
+use Rattle.std.proofs.Common.{arith, ◌≡◌, ℕ, zero, suc, ◌+◌, ◌<◌, ◌≤◌, List, [], ◌∷◌, ◌++◌, length, take, drop, Bool, true, false, Option, Some, None, refl, ap, sym, ◌∙◌, subst, inl, inr}
+use Rattle.std.specs.Prelude.{◌&&◌, ◌↔◌, not, IfSome, IsTrue}
 use Rattle.std.proofs.lemmas.Bool.{false≢true}
 use Rattle.std.specs.List.{list_all}
 use Rattle.std.specs.Io.KnownBytes.{Appends}
 use Rattle.std.proofs.KnownBytes.{Appends-nil, Appends-trans}
 use Rattle.std.proofs.lemmas.List.{append-nil, append_assoc, length-append, length-take, take-append-drop}
 use Rattle.std.proofs.lemmas.List.Folds.{list_all-append}
-use Rattle.mc_io.specs.LineReader.{LineReader, ahead}
-use Rattle.mc_io.specs.Outside.{AppendsPart}
+use Rattle.mc_io.specs.LineReader.{ahead, fresh}
+use Rattle.mc_io.specs.Outside.{AppendsPart, Input, Outputs}
 use Rattle.mc_convert.specs.declared.check_readers.CheckReaders.{CheckReaders}
 use Rattle.mc_convert.specs.declared.finding.Finding.{Finding}
 use Rattle.mc_convert.specs.declared.record_read.RecordRead.{RecordRead}
 use Rattle.mc_convert.specs.declared.status.Halt.{Halt}
 use Rattle.mc_convert.specs.declared.status.Halt.TheVariants.{ReadFault, InputLimit, WriteFault, NoMemory}
 use Rattle.mc_convert.specs.Records.{records}
-use Rattle.mc_convert.specs.Readers.{Told, Reading, fresh}
-use Rattle.mc_convert.specs.Runs.{Held}
 use Rattle.mc_convert.specs.Findings.{AreReadAs, IsReadAs, is_true, verdict_line}
 use Rattle.mc_convert.specs.Checks.{Remaining, first, at_first, extra_line, extra_text, FindsOne, Finds, IsAllTrue, IsCheckPart, IsCheckText, verdict_lines}
-use Rattle.mc_convert.specs.CheckSteps.{fresh_readers, Advance, AreWithin, IsPast, ReadHalts, ReadsNext, TakesFirst, FindsNext, OneFound}
-use Rattle.mc_convert.specs.CheckRuns.{AllFound, CheckHalts, CheckStopped, ChecksAll, ChecksSome, ChecksLess, PastLimit, RestChecked, RestCut, RestOf, RestStopped, FoundAll, GrownBy, IfKnown, IsLessThanText, LessAt, OneChecked, PutSome, Written}
+use Rattle.mc_convert.specs.CheckSteps.{fresh_readers, Advance, ReadHalts, ReadsNext, TakesFirst, FindsNext, OneFound}
+use Rattle.mc_convert.specs.CheckRuns.{AllFound, CheckHalts, CheckStopped, ChecksAll, ChecksSome, ChecksLess, RestChecked, RestCut, RestOf, RestStopped, FoundAll, GrownBy, IfKnown, IsLessThanText, LessAt, OneChecked, PutSome, Written}
 use Rattle.mc_convert.proofs.CheckLifts.{halts_later}
 use Rattle.mc_convert.proofs.ReaderSteps.{rose_later}
 use Rattle.mc_convert.proofs.FindingsOnce.{finds_push, finds_count, lines_push, less_than_front, less_than_extra, all_true_not}
 
 -- a stop of the reading is one of the check
-pub read_halts : (limit : ℕ) (halt : Halt) (readers : CheckReaders) (before after : ℕ → Told) (old new : Held) → ReadHalts limit halt readers before after → CheckHalts limit halt readers before after old new
+pub read_halts : (limit : ℕ) (halt : Halt) (readers : CheckReaders) (before after : ℕ → Input) (old new : Outputs) → ReadHalts limit halt readers before after → CheckHalts limit halt readers before after old new
 read_halts limit ReadFault readers before after old new h = h
 read_halts limit InputLimit readers before after old new h = h
 read_halts limit NoMemory readers before after old new h = h
@@ -35,7 +33,7 @@ read_halts limit WriteFault readers before after old new h = absurd h
 -- ---- the originals so far
 
 -- so many originals are checked, and their lines are written up to these
-pub record Front (number : ℕ) (all_true : Bool) (o c r : List ℕ) (originals converted report : Option (List ℕ)) (old new : Held) (lines : List ℕ) : Type 0 where
+pub record Front (number : ℕ) (all_true : Bool) (o c r : List ℕ) (originals converted report : Option (List ℕ)) (old new : Outputs) (lines : List ℕ) : Type 0 where
   pub o_left : List ℕ
   pub c_left : List ℕ
   pub r_left : List ℕ
@@ -48,9 +46,9 @@ pub record Front (number : ℕ) (all_true : Bool) (o c r : List ℕ) (originals 
   pub finds : Finds 1 done (at_first c r) findings (at_first c_left r_left)
   pub count : length done ≡ number
   pub true_is : list_all is_true findings ≡ all_true
-  pub put : PutSome old.out new.out (verdict_lines 1 findings) lines
+  pub put : PutSome (old.held 0) (new.held 0) (verdict_lines 1 findings) lines
 
-abbrev pub Progress : ℕ → Bool → Option (List ℕ) → Option (List ℕ) → Option (List ℕ) → Option (List ℕ) → Option (List ℕ) → Option (List ℕ) → Held → Held → List ℕ → Type 0
+abbrev pub Progress : ℕ → Bool → Option (List ℕ) → Option (List ℕ) → Option (List ℕ) → Option (List ℕ) → Option (List ℕ) → Option (List ℕ) → Outputs → Outputs → List ℕ → Type 0
 Progress number all_true o c r originals converted report old new lines = IfKnown o c r (λ x y z. Front number all_true x y z originals converted report old new lines)
 
 pub if_known : (o c r : Option (List ℕ)) (P Q : List ℕ → List ℕ → List ℕ → Type 0) → ((x y z : List ℕ) → P x y z → Q x y z) → IfKnown o c r P → IfKnown o c r Q
@@ -59,7 +57,7 @@ if_known (Some x) None r P Q f h = tt
 if_known (Some x) (Some y) None P Q f h = tt
 if_known (Some x) (Some y) (Some z) P Q f h = f x y z h
 
-pub begun : (o c r : Option (List ℕ)) (held : Held) → Progress 0 true o c r (ahead (fresh 0) o) (ahead (fresh 1) c) (ahead (fresh 2) r) held held []
+pub begun : (o c r : Option (List ℕ)) (held : Outputs) → Progress 0 true o c r (ahead (fresh 0) o) (ahead (fresh 1) c) (ahead (fresh 2) r) held held []
 begun None c r held = tt
 begun (Some x) None r held = tt
 begun (Some x) (Some y) None held = tt
@@ -76,10 +74,10 @@ begun (Some x) (Some y) (Some z) held = record {
   finds = refl;
   count = refl;
   true_is = refl;
-  put = record { written = []; out = Appends-nil held.out; split = refl };
+  put = record { written = []; out = Appends-nil (held.held 0); split = refl };
 }
 
-pub fresh_begun : (readers : CheckReaders) (o c r : Option (List ℕ)) (held : Held) → readers ≡ fresh_readers
+pub fresh_begun : (readers : CheckReaders) (o c r : Option (List ℕ)) (held : Outputs) → readers ≡ fresh_readers
     → Progress 0 true o c r (ahead readers.originals o) (ahead readers.converted c) (ahead readers.report r) held held []
 fresh_begun readers o c r held e = subst (λ (x : CheckReaders). Progress 0 true o c r (ahead x.originals o) (ahead x.converted c) (ahead x.report r) held held []) (sym e) (begun o c r held)
 
@@ -119,7 +117,7 @@ at_number : (done : List (Option (List ℕ))) (number k : ℕ) (given : Option (
     → FindsOne (1 + length done) given before finding after
 at_number done number k given before after finding count next one = subst (λ (n : ℕ). FindsOne n given before finding after) (let e : k ≡ 1 + length done = omega arith in e) one
 
-pub front_pushed : (number k : ℕ) (t u : Bool) (o c r : List ℕ) (o1 c1 r1 o2 c2 r2 : Option (List ℕ)) (old new : Held) (lines more : List ℕ) (given : Option (List ℕ))
+pub front_pushed : (number k : ℕ) (t u : Bool) (o c r : List ℕ) (o1 c1 r1 o2 c2 r2 : Option (List ℕ)) (old new : Outputs) (lines more : List ℕ) (given : Option (List ℕ))
     → Front number t o c r o1 c1 r1 old new lines → k ≡ number + 1 → TakesFirst records o1 o2 (Some given) → OneChecked k given c1 c2 r1 r2 lines more u → Front k (t && u) o c r o2 c2 r2 old new more
 front_pushed number k t u o c r o1 c1 r1 o2 c2 r2 old new lines more given f next takes one =
     let takes' = subst (λ (x : Option (List ℕ)). TakesFirst records x o2 (Some given)) f.originals_are takes in
@@ -154,15 +152,15 @@ front_pushed number k t u o c r o1 c1 r1 o2 c2 r2 old new lines more given f nex
       };
     }
 
-pub pushed : (number k : ℕ) (t u : Bool) (o c r o1 c1 r1 o2 c2 r2 : Option (List ℕ)) (old new : Held) (lines more : List ℕ) (given : Option (List ℕ))
+pub pushed : (number k : ℕ) (t u : Bool) (o c r o1 c1 r1 o2 c2 r2 : Option (List ℕ)) (old new : Outputs) (lines more : List ℕ) (given : Option (List ℕ))
     → Progress number t o c r o1 c1 r1 old new lines → k ≡ number + 1 → TakesFirst records o1 o2 (Some given) → OneChecked k given c1 c2 r1 r2 lines more u → Progress k (t && u) o c r o2 c2 r2 old new more
 pushed number k t u o c r o1 c1 r1 o2 c2 r2 old new lines more given p next takes one =
     if_known o c r (λ x y z. Front number t x y z o1 c1 r1 old new lines) (λ x y z. Front k (t && u) x y z o2 c2 r2 old new more)
     (λ x y z f. front_pushed number k t u x y z o1 c1 r1 o2 c2 r2 old new lines more given f next takes one) p
 
 -- some of the lines are written
-pub put_more : (number : ℕ) (t : Bool) (o c r o1 c1 r1 : Option (List ℕ)) (old mid new : Held) (lines rest : List ℕ)
-    → Progress number t o c r o1 c1 r1 old mid lines → PutSome mid.out new.out lines rest → Progress number t o c r o1 c1 r1 old new rest
+pub put_more : (number : ℕ) (t : Bool) (o c r o1 c1 r1 : Option (List ℕ)) (old mid new : Outputs) (lines rest : List ℕ)
+    → Progress number t o c r o1 c1 r1 old mid lines → PutSome (mid.held 0) (new.held 0) lines rest → Progress number t o c r o1 c1 r1 old new rest
 put_more number t o c r o1 c1 r1 old mid new lines rest p some =
     if_known o c r (λ x y z. Front number t x y z o1 c1 r1 old mid lines) (λ x y z. Front number t x y z o1 c1 r1 old new rest) (λ x y z f. record {
       o_left = f.o_left;
@@ -179,7 +177,7 @@ put_more number t o c r o1 c1 r1 old mid new lines rest p some =
       true_is = f.true_is;
       put = record {
         written = f.put.written ++ some.written;
-        out = Appends-trans old.out mid.out new.out f.put.written some.written f.put.out some.out;
+        out = Appends-trans (old.held 0) (mid.held 0) (new.held 0) f.put.written some.written f.put.out some.out;
         split = append_assoc f.put.written some.written rest ∙ (ap (λ (x : List ℕ). f.put.written ++ x) some.split ∙ f.put.split);
       };
     }) p
@@ -191,9 +189,9 @@ take_front [] ys = refl
 take_front (x ∷ xs) ys = ap (λ (l : List (Option (List ℕ))). x ∷ l) (take_front xs ys)
 
 -- between two originals
-pub stopped_between : (number : ℕ) (t : Bool) (o c r o1 c1 r1 : Option (List ℕ)) (old new : Held) (lines : List ℕ) → Progress number t o c r o1 c1 r1 old new lines → ChecksSome o c r old.out new.out
+pub stopped_between : (number : ℕ) (t : Bool) (o c r o1 c1 r1 : Option (List ℕ)) (old new : Outputs) (lines : List ℕ) → Progress number t o c r o1 c1 r1 old new lines → ChecksSome o c r (old.held 0) (new.held 0)
 stopped_between number t o c r o1 c1 r1 old new lines p =
-    if_known o c r (λ x y z. Front number t x y z o1 c1 r1 old new lines) (λ x y z. GrownBy old.out new.out (IsCheckPart x y z)) (λ x y z f. record {
+    if_known o c r (λ x y z. Front number t x y z o1 c1 r1 old new lines) (λ x y z. GrownBy (old.held 0) (new.held 0) (IsCheckPart x y z)) (λ x y z f. record {
       more = f.put.written;
       out = f.put.out;
       holds = inl (record {
@@ -210,17 +208,17 @@ pub record Cut (o c r : List ℕ) (old new : Option (List ℕ)) : Type 0 where
   pub some : GrownBy old new (IsCheckPart o c r)
   pub less : GrownBy old new (IsLessThanText o c r)
 
-pub stopped_within : (number : ℕ) (t : Bool) (o c r o1 c1 r1 : Option (List ℕ)) (old mid new : Held) (lines : List ℕ)
-    → Progress number t o c r o1 c1 r1 old mid lines → AppendsPart mid.out new.out lines → ChecksSome o c r old.out new.out × ChecksLess o c r old.out new.out
+pub stopped_within : (number : ℕ) (t : Bool) (o c r o1 c1 r1 : Option (List ℕ)) (old mid new : Outputs) (lines : List ℕ)
+    → Progress number t o c r o1 c1 r1 old mid lines → AppendsPart (mid.held 0) (new.held 0) lines → ChecksSome o c r (old.held 0) (new.held 0) × ChecksLess o c r (old.held 0) (new.held 0)
 stopped_within number t o c r o1 c1 r1 old mid new lines p part =
     let front : List ℕ = take part.0 lines in
     let rest : List ℕ = drop part.0 lines in
     let some = stopped_between number t o c r o1 c1 r1 old new rest (put_more number t o c r o1 c1 r1 old mid new lines rest p (record { written = front; out = part.2; split = take-append-drop part.0 lines })) in
     let F : List ℕ → List ℕ → List ℕ → Type 0 = λ x y z. Front number t x y z o1 c1 r1 old mid lines in (
       some,
-      if_known o c r F (λ x y z. GrownBy old.out new.out (IsLessThanText x y z)) (λ x y z f. record {
+      if_known o c r F (λ x y z. GrownBy (old.held 0) (new.held 0) (IsLessThanText x y z)) (λ x y z f. record {
         more = f.put.written ++ front;
-        out = Appends-trans old.out mid.out new.out f.put.written front f.put.out part.2;
+        out = Appends-trans (old.held 0) (mid.held 0) (new.held 0) f.put.written front f.put.out part.2;
         holds = λ text is.
             let within = part.1 in
             let all = ap (λ (l : List ℕ). length l) f.put.split in
@@ -255,7 +253,7 @@ none_of all rest read e r = by_given r.given (subst (λ (x : Option RecordRead).
     by_given (Some text) reads takes = absurd reads
 
 -- one more original, where other readers moved on and stayed in between
-pub checked_next : (number k : ℕ) (t u : Bool) (o c r o1 c1 r1 o2 c1' r1' o3 c2 r2 : Option (List ℕ)) (old new : Held) (lines more : List ℕ) (text : Option (List ℕ))
+pub checked_next : (number k : ℕ) (t u : Bool) (o c r o1 c1 r1 o2 c1' r1' o3 c2 r2 : Option (List ℕ)) (old new : Outputs) (lines more : List ℕ) (text : Option (List ℕ))
     → Progress number t o c r o1 c1 r1 old new lines → k ≡ number + 1 → TakesFirst records o1 o2 (Some text) → c1' ≡ c1 → r1' ≡ r1 → OneChecked k text c1' c2 r1' r2 lines more u → o3 ≡ o2
     → Progress k (t && u) o c r o3 c2 r2 old new more
 checked_next number k t u o c r o1 c1 r1 o2 c1' r1' o3 c2 r2 old new lines more text p next takes same_c same_r one same_o =
@@ -265,7 +263,7 @@ checked_next number k t u o c r o1 c1 r1 o2 c1' r1' o3 c2 r2 old new lines more 
     subst R (sym same_o) (pushed number k t u o c r o1 c1 r1 o2 c2 r2 old new lines more text p next takes (subst Q same_r (subst P same_c one)))
 
 -- all are checked
-pub all_found : (number : ℕ) (t : Bool) (o c r o1 c1 r1 o2 c2 r2 : Option (List ℕ)) (old new : Held) → Progress number t o c r o1 c1 r1 old new [] → TakesFirst records o1 o2 None → c2 ≡ c1 → r2 ≡ r1
+pub all_found : (number : ℕ) (t : Bool) (o c r o1 c1 r1 o2 c2 r2 : Option (List ℕ)) (old new : Outputs) → Progress number t o c r o1 c1 r1 old new [] → TakesFirst records o1 o2 None → c2 ≡ c1 → r2 ≡ r1
     → FoundAll t o c r c2 r2 old new
 all_found number t o c r o1 c1 r1 o2 c2 r2 old new p takes same_c same_r =
     if_known o c r (λ x y z. Front number t x y z o1 c1 r1 old new []) (λ x y z. AllFound t x y z c2 r2 old new) (λ x y z f.
@@ -278,7 +276,7 @@ all_found number t o c r o1 c1 r1 o2 c2 r2 old new p takes same_c same_r =
       findings = f.findings;
       finds = subst (λ (l : List (Option (List ℕ))). Finds 1 l (at_first y z) f.findings (at_first f.c_left f.r_left)) (sym (f.split ∙ ap (λ (l : List (Option (List ℕ))). f.done ++ l) none ∙ append-nil f.done)) f.finds;
       true_is = f.true_is;
-      written = subst (λ (x : List ℕ). Appends old.out new.out x) (sym (append-nil f.put.written) ∙ f.put.split) f.put.out;
+      written = subst (λ (x : List ℕ). Appends (old.held 0) (new.held 0) x) (sym (append-nil f.put.written) ∙ f.put.split) f.put.out;
     }) p
   where
     at_end : (left : List ℕ) (rest : Option (List ℕ)) → TakesFirst records (Some left) rest None → records left ≡ []
@@ -286,11 +284,11 @@ all_found number t o c r o1 c1 r1 o2 c2 r2 old new p takes same_c same_r =
     at_end left (Some rest) h = none_first (records left) h.0
 
 -- what a sink does in several steps
-pub written_trans : (a b c : Held) → Written a b → Written b c → Written a c
+pub written_trans : (a b c : Outputs) → Written a b → Written b c → Written a c
 written_trans a b c p q = record { later = (let low = p.later in let high = q.later in omega arith); report = q.report ∙ p.report }
 
 -- a stop of the check behind other steps
-pub check_halts_later : (limit : ℕ) (halt : Halt) (a b c : CheckReaders) (x y z : ℕ → Told) (old mid new : Held) → Advance a b x y → old.faults ≤ mid.faults → CheckHalts limit halt c y z mid new → CheckHalts limit halt c x z old new
+pub check_halts_later : (limit : ℕ) (halt : Halt) (a b c : CheckReaders) (x y z : ℕ → Input) (old mid new : Outputs) → Advance a b x y → old.faults ≤ mid.faults → CheckHalts limit halt c y z mid new → CheckHalts limit halt c x z old new
 check_halts_later limit ReadFault a b c x y z old mid new p later h = halts_later limit ReadFault a b c x y z p h
 check_halts_later limit InputLimit a b c x y z old mid new p later h = h
 check_halts_later limit NoMemory a b c x y z old mid new p later h = h
@@ -311,12 +309,12 @@ if_both false b h = cc
 both_so : (a b : Bool) → a ≡ true → b ≡ false → IsTrue (a && not b)
 both_so a b e f = cc
 
-with_rest : (t extra : Bool) (o c r c_left r_left : List ℕ) (old mid new : Held) (findings : List Finding) → Finds 1 (records o) (at_first c r) findings (at_first c_left r_left) → list_all is_true findings ≡ t
-    → Appends old.out mid.out (verdict_lines 1 findings) → RestOf c_left r_left mid new extra → WholeText t extra o c r old.out new.out
+with_rest : (t extra : Bool) (o c r c_left r_left : List ℕ) (old mid new : Outputs) (findings : List Finding) → Finds 1 (records o) (at_first c r) findings (at_first c_left r_left) → list_all is_true findings ≡ t
+    → Appends (old.held 0) (mid.held 0) (verdict_lines 1 findings) → RestOf c_left r_left mid new extra → WholeText t extra o c r (old.held 0) (new.held 0)
 with_rest t extra o c r c_left r_left old mid new findings finds true_is written rest = record {
   grown = record {
     more = verdict_lines 1 findings ++ extra_text extra;
-    out = Appends-trans old.out mid.out new.out (verdict_lines 1 findings) (extra_text extra) written rest.written;
+    out = Appends-trans (old.held 0) (mid.held 0) (new.held 0) (verdict_lines 1 findings) (extra_text extra) written rest.written;
     holds = record { findings = findings; after = at_first c_left r_left; finds = finds; written = ap (λ (b : Bool). verdict_lines 1 findings ++ extra_text b) rest.extra_is };
   };
   true_is = (
@@ -325,17 +323,17 @@ with_rest t extra o c r c_left r_left old mid new findings finds true_is written
   );
 }
 
-found_with_rest : (t extra : Bool) (o c r : List ℕ) (c1 r1 : Option (List ℕ)) (old mid new : Held) → AllFound t o c r c1 r1 old mid → RestChecked c1 r1 mid new extra → WholeText t extra o c r old.out new.out
+found_with_rest : (t extra : Bool) (o c r : List ℕ) (c1 r1 : Option (List ℕ)) (old mid new : Outputs) → AllFound t o c r c1 r1 old mid → RestChecked c1 r1 mid new extra → WholeText t extra o c r (old.held 0) (new.held 0)
 found_with_rest t extra o c r c1 r1 old mid new f rest =
     let P : Option (List ℕ) → Type 0 = λ x. RestChecked x r1 mid new extra in
     let Q : Option (List ℕ) → Type 0 = λ x. RestChecked (Some f.c_left) x mid new extra in
     with_rest t extra o c r f.c_left f.r_left old mid new f.findings f.finds f.true_is f.written (subst Q f.report_is (subst P f.converted_are rest))
 
-pub checks_all : (t extra : Bool) (o c r c1 r1 : Option (List ℕ)) (old mid new : Held) → FoundAll t o c r c1 r1 old mid → RestChecked c1 r1 mid new extra → ChecksAll o c r old.out new.out
+pub checks_all : (t extra : Bool) (o c r c1 r1 : Option (List ℕ)) (old mid new : Outputs) → FoundAll t o c r c1 r1 old mid → RestChecked c1 r1 mid new extra → ChecksAll o c r (old.held 0) (new.held 0)
 checks_all t extra o c r c1 r1 old mid new found rest =
-    if_known o c r (λ x y z. AllFound t x y z c1 r1 old mid) (λ x y z. GrownBy old.out new.out (IsCheckText x y z)) (λ x y z f. (found_with_rest t extra x y z c1 r1 old mid new f rest).grown) found
+    if_known o c r (λ x y z. AllFound t x y z c1 r1 old mid) (λ x y z. GrownBy (old.held 0) (new.held 0) (IsCheckText x y z)) (λ x y z f. (found_with_rest t extra x y z c1 r1 old mid new f rest).grown) found
 
-pub checks_true : (t extra : Bool) (o c r c1 r1 : Option (List ℕ)) (old mid new : Held) → FoundAll t o c r c1 r1 old mid → RestChecked c1 r1 mid new extra → IfKnown o c r (λ x y z. IsTrue (t && not extra) ↔ IsAllTrue x y z)
+pub checks_true : (t extra : Bool) (o c r c1 r1 : Option (List ℕ)) (old mid new : Outputs) → FoundAll t o c r c1 r1 old mid → RestChecked c1 r1 mid new extra → IfKnown o c r (λ x y z. IsTrue (t && not extra) ↔ IsAllTrue x y z)
 checks_true t extra o c r c1 r1 old mid new found rest =
     if_known o c r (λ x y z. AllFound t x y z c1 r1 old mid) (λ x y z. IsTrue (t && not extra) ↔ IsAllTrue x y z) (λ x y z f. (found_with_rest t extra x y z c1 r1 old mid new f rest).true_is) found
 
@@ -344,7 +342,7 @@ take_all [] = refl
 take_all (x ∷ xs) = ap (λ (l : List (Option (List ℕ))). x ∷ l) (take_all xs)
 
 -- behind the last original
-found_part : (t : Bool) (o c r : List ℕ) (c1 r1 : Option (List ℕ)) (old new : Held) → AllFound t o c r c1 r1 old new → GrownBy old.out new.out (IsCheckPart o c r)
+found_part : (t : Bool) (o c r : List ℕ) (c1 r1 : Option (List ℕ)) (old new : Outputs) → AllFound t o c r c1 r1 old new → GrownBy (old.held 0) (new.held 0) (IsCheckPart o c r)
 found_part t o c r c1 r1 old new f = record {
   more = verdict_lines 1 f.findings;
   out = f.written;
@@ -358,14 +356,14 @@ found_part t o c r c1 r1 old new f = record {
 }
 
 -- within the last line
-rest_cut : (t : Bool) (o c r : List ℕ) (c1 r1 : Option (List ℕ)) (old mid new : Held) → AllFound t o c r c1 r1 old mid → IfSome c1 (λ x. IfSome r1 (λ y. RestCut x y mid new)) → Cut o c r old.out new.out
+rest_cut : (t : Bool) (o c r : List ℕ) (c1 r1 : Option (List ℕ)) (old mid new : Outputs) → AllFound t o c r c1 r1 old mid → IfSome c1 (λ x. IfSome r1 (λ y. RestCut x y mid new)) → Cut o c r (old.held 0) (new.held 0)
 rest_cut t o c r c1 r1 old mid new f rest =
     let P : Option (List ℕ) → Type 0 = λ a. IfSome a (λ x. IfSome r1 (λ y. RestCut x y mid new)) in
     let Q : Option (List ℕ) → Type 0 = λ a. IfSome (Some f.c_left) (λ x. IfSome a (λ y. RestCut x y mid new)) in
     let cut : RestCut f.c_left f.r_left mid new = subst Q f.report_is (subst P f.converted_are rest) in
     let m : ℕ = cut.written.0 in
     let within = cut.written.1 in
-    let out = Appends-trans old.out mid.out new.out (verdict_lines 1 f.findings) (take m extra_line) f.written cut.written.2 in
+    let out = Appends-trans (old.held 0) (mid.held 0) (new.held 0) (verdict_lines 1 f.findings) (take m extra_line) f.written cut.written.2 in
     record {
       some = record {
         more = verdict_lines 1 f.findings ++ take m extra_line;
@@ -386,15 +384,15 @@ rest_cut t o c r c1 r1 old mid new f rest =
       };
     }
 
-rest_as_before : (t : Bool) (o c r c1 r1 : Option (List ℕ)) (old mid new : Held) → FoundAll t o c r c1 r1 old mid → new.out ≡ mid.out → ChecksSome o c r old.out new.out
-rest_as_before t o c r c1 r1 old mid new found same = subst (λ (x : Option (List ℕ)). ChecksSome o c r old.out x) (sym same)
-    (if_known o c r (λ x y z. AllFound t x y z c1 r1 old mid) (λ x y z. GrownBy old.out mid.out (IsCheckPart x y z)) (λ x y z f. found_part t x y z c1 r1 old mid f) found)
+rest_as_before : (t : Bool) (o c r c1 r1 : Option (List ℕ)) (old mid new : Outputs) → FoundAll t o c r c1 r1 old mid → new.held 0 ≡ mid.held 0 → ChecksSome o c r (old.held 0) (new.held 0)
+rest_as_before t o c r c1 r1 old mid new found same = subst (λ (x : Option (List ℕ)). ChecksSome o c r (old.held 0) x) (sym same)
+    (if_known o c r (λ x y z. AllFound t x y z c1 r1 old mid) (λ x y z. GrownBy (old.held 0) (mid.held 0) (IsCheckPart x y z)) (λ x y z f. found_part t x y z c1 r1 old mid f) found)
 
-pub rest_stopped : (halt : Halt) (t : Bool) (o c r c1 r1 : Option (List ℕ)) (old mid new : Held) → FoundAll t o c r c1 r1 old mid → RestStopped halt c1 r1 mid new → ChecksSome o c r old.out new.out × LessAt halt o c r old new
+pub rest_stopped : (halt : Halt) (t : Bool) (o c r c1 r1 : Option (List ℕ)) (old mid new : Outputs) → FoundAll t o c r c1 r1 old mid → RestStopped halt c1 r1 mid new → ChecksSome o c r (old.held 0) (new.held 0) × LessAt halt o c r old new
 rest_stopped WriteFault t o c r c1 r1 old mid new found rest =
     let F : List ℕ → List ℕ → List ℕ → Type 0 = λ x y z. AllFound t x y z c1 r1 old mid in (
-      if_known o c r F (λ x y z. GrownBy old.out new.out (IsCheckPart x y z)) (λ x y z f. (rest_cut t x y z c1 r1 old mid new f rest).some) found,
-      if_known o c r F (λ x y z. GrownBy old.out new.out (IsLessThanText x y z)) (λ x y z f. (rest_cut t x y z c1 r1 old mid new f rest).less) found,
+      if_known o c r F (λ x y z. GrownBy (old.held 0) (new.held 0) (IsCheckPart x y z)) (λ x y z f. (rest_cut t x y z c1 r1 old mid new f rest).some) found,
+      if_known o c r F (λ x y z. GrownBy (old.held 0) (new.held 0) (IsLessThanText x y z)) (λ x y z f. (rest_cut t x y z c1 r1 old mid new f rest).less) found,
     )
 rest_stopped ReadFault t o c r c1 r1 old mid new found rest = (rest_as_before t o c r c1 r1 old mid new found rest, tt)
 rest_stopped InputLimit t o c r c1 r1 old mid new found rest = (rest_as_before t o c r c1 r1 old mid new found rest, tt)
@@ -402,59 +400,15 @@ rest_stopped NoMemory t o c r c1 r1 old mid new found rest = (rest_as_before t o
 
 -- ---- causes
 
-pub stopped_by : (limit : ℕ) (halt : Halt) (readers : CheckReaders) (before after : ℕ → Told) (old new : Held) → CheckHalts limit halt readers before after old new → LessAt halt (before 0).left (before 1).left (before 2).left old new
+pub stopped_by : (limit : ℕ) (halt : Halt) (readers : CheckReaders) (before after : ℕ → Input) (old new : Outputs) → CheckHalts limit halt readers before after old new → LessAt halt (before 0).left (before 1).left (before 2).left old new
     → CheckStopped halt before after old new
 stopped_by limit ReadFault readers before after old new h less = h.1
 stopped_by limit InputLimit readers before after old new h less = h.1
 stopped_by limit NoMemory readers before after old new h less = tt
 stopped_by limit WriteFault readers before after old new h less = (h.1, less)
 
--- what was taken of an input is what its reader counts
-taken_is : (i : ℕ) (reader : LineReader) (before after : Told) → Reading (fresh i) reader before after → before.taken < 2 ^ 127 → after.taken ≡ before.taken + reader.taken
-taken_is i reader before after h less =
-    let few = h.few (omega arith) in
-    let is : after.taken ≡ before.taken + (reader.taken - 0) = h.counted (omega arith) in omega arith
-
-abbrev FewTaken : (ℕ → Told) → Type 0
-FewTaken before = (i : ℕ) → i < 3 → (before i).taken < 2 ^ 127
-
-past_limit : (limit : ℕ) (readers : CheckReaders) (before after : ℕ → Told) → FewTaken before → Advance fresh_readers readers before after → IsPast limit readers → PastLimit limit (λ i. (before i).taken) (λ i. (after i).taken)
-past_limit limit readers before after few advance (inl past) =
-    let is = taken_is 0 readers.originals (before 0) (after 0) advance.originals (few 0 (omega arith)) in record { input = 0; is_input = omega arith; past = omega arith }
-past_limit limit readers before after few advance (inr (inl past)) =
-    let is = taken_is 1 readers.converted (before 1) (after 1) advance.converted (few 1 (omega arith)) in record { input = 1; is_input = omega arith; past = omega arith }
-past_limit limit readers before after few advance (inr (inr past)) =
-    let is = taken_is 2 readers.report (before 2) (after 2) advance.report (few 2 (omega arith)) in record { input = 2; is_input = omega arith; past = omega arith }
-
-not_past : (limit : ℕ) (readers : CheckReaders) (before after : ℕ → Told) → FewTaken before → Advance fresh_readers readers before after → AreWithin limit readers → PastLimit limit (λ i. (before i).taken) (λ i. (after i).taken) → ⊥
-not_past limit readers before after few advance within past = by_input past.input past.is_input past.past
-  where
-    by_input : (i : ℕ) → i < 3 → (before i).taken + limit < (after i).taken → ⊥
-    by_input zero less more =
-        let is = taken_is 0 readers.originals (before 0) (after 0) advance.originals (few 0 (omega arith)) in let low = within.originals in omega arith
-    by_input (suc zero) less more =
-        let is = taken_is 1 readers.converted (before 1) (after 1) advance.converted (few 1 (omega arith)) in let low = within.converted in omega arith
-    by_input (suc (suc zero)) less more =
-        let is = taken_is 2 readers.report (before 2) (after 2) advance.report (few 2 (omega arith)) in let low = within.report in omega arith
-    by_input (suc (suc (suc i))) less more = omega arith
-
-abbrev stop : Halt → Result Bool Halt
-stop halt = Err halt
-
--- the limit is answered exactly where more was taken
-pub limit_at : (limit : ℕ) (halt : Halt) (readers : CheckReaders) (before after : ℕ → Told) (old new : Held) → FewTaken before → Advance fresh_readers readers before after → CheckHalts limit halt readers before after old new
-    → (stop halt ≡ stop InputLimit) ↔ PastLimit limit (λ i. (before i).taken) (λ i. (after i).taken)
-limit_at limit ReadFault readers before after old new few advance h = (λ e. absurd cc, λ past. absurd (not_past limit readers before after few advance h.0 past))
-limit_at limit InputLimit readers before after old new few advance h = (λ _. past_limit limit readers before after few advance h.0, λ _. refl)
-limit_at limit NoMemory readers before after old new few advance h = (λ e. absurd cc, λ past. absurd (not_past limit readers before after few advance h past))
-limit_at limit WriteFault readers before after old new few advance h = (λ e. absurd cc, λ past. absurd (not_past limit readers before after few advance h.0 past))
-
-pub no_limit : (limit : ℕ) (result : Bool) (readers : CheckReaders) (before after : ℕ → Told) → FewTaken before → Advance fresh_readers readers before after → AreWithin limit readers
-    → (Ok result ≡ stop InputLimit) ↔ PastLimit limit (λ i. (before i).taken) (λ i. (after i).taken)
-no_limit limit result readers before after few advance within = (λ e. absurd cc, λ past. absurd (not_past limit readers before after few advance within past))
-
 -- all three inputs were read to their ends
-pub all_ended : (readers : CheckReaders) (before after : ℕ → Told) → Advance fresh_readers readers before after → IsTrue readers.originals.ended → IsTrue readers.converted.ended → IsTrue readers.report.ended
+pub all_ended : (readers : CheckReaders) (before after : ℕ → Input) → Advance fresh_readers readers before after → IsTrue readers.originals.ended → IsTrue readers.converted.ended → IsTrue readers.report.ended
     → (i : ℕ) → i < 3 → IsTrue (after i).ended
 all_ended readers before after advance o c r zero less = advance.originals.at_end (λ h. absurd (false≢true h)) o
 all_ended readers before after advance o c r (suc zero) less = advance.converted.at_end (λ h. absurd (false≢true h)) c
@@ -462,5 +416,5 @@ all_ended readers before after advance o c r (suc (suc zero)) less = advance.rep
 all_ended readers before after advance o c r (suc (suc (suc i))) less = absurd (omega arith)
 
 -- nothing is written yet
-pub nothing_checked : (o c r : Option (List ℕ)) (held : Held) → ChecksSome o c r held.out held.out
+pub nothing_checked : (o c r : Option (List ℕ)) (held : Outputs) → ChecksSome o c r (held.held 0) (held.held 0)
 nothing_checked o c r held = stopped_between 0 true o c r (ahead (fresh 0) o) (ahead (fresh 1) c) (ahead (fresh 2) r) held held [] (begun o c r held)

@@ -176,11 +176,11 @@ finds_count k (o ∷ os) before after (f ∷ fs) (middle, one, rest) = ap suc (f
 
 -- the lines of findings behind others
 lines_append : (k : ℕ) (fs gs : List Finding) → verdict_lines k (fs ++ gs) ≡ verdict_lines k fs ++ verdict_lines (k + length fs) gs
-lines_append k [] gs = let place : k ≡ k + 0 = omega arith in ap (λ (n : ℕ). verdict_lines n gs) place
+lines_append k [] gs = let same : k ≡ k + 0 = omega arith in ap (λ (n : ℕ). verdict_lines n gs) same
 lines_append k (f ∷ fs) gs =
-    let place : k + 1 + length fs ≡ k + length (f ∷ fs) = omega arith in
+    let same : k + 1 + length fs ≡ k + length (f ∷ fs) = omega arith in
     ap (λ (x : List ℕ). verdict_line k f ++ x) (lines_append (k + 1) fs gs) ∙ sym (append_assoc (verdict_line k f) (verdict_lines (k + 1) fs) (verdict_lines (k + 1 + length fs) gs))
-    ∙ ap (λ (n : ℕ). verdict_line k f ++ verdict_lines (k + 1) fs ++ verdict_lines n gs) place
+    ∙ ap (λ (n : ℕ). verdict_line k f ++ verdict_lines (k + 1) fs ++ verdict_lines n gs) same
 
 -- the line of one more finding
 pub lines_push : (k : ℕ) (fs : List Finding) (f : Finding) → verdict_lines k (fs ++ f ∷ []) ≡ verdict_lines k fs ++ verdict_line (k + length fs) f

@@ -6,8 +6,10 @@ pub mod Checking
 pub mod CommandLines
 pub mod Commands
 pub mod FindingsOnce
+pub mod Limits
 pub mod OneAnswer
 pub mod ReaderSteps
 pub mod Rests
 pub mod Running
 pub mod SameRefusal
+pub mod Promised

@@ -1,95 +1,69 @@
--- A record has one answer.
-use Rattle.std.proofs.Common.{arith, ◌≡◌, ◌∙◌, ℕ, ◌+◌, ◌<◌, List, [], ◌∷◌, ◌++◌, length, Option, Some, None, sym, ap, subst, inl, inr}
-use Rattle.std.proofs.lemmas.Bool.{cases_lt}
+-- The report line of an answer is one line.
+use Rattle.std.proofs.Common.{arith, ◌≡◌, ◌∙◌, ◌==◌, ℕ, ◌+◌, ◌<◌, Bool, true, false, cond, List, [], ◌∷◌, ◌++◌, length, Option, Some, None, refl, sym, ap, inl, inr}
 use Rattle.std.proofs.lemmas.List.{length-append}
-use Rattle.mc_base.specs.declared.ids.AtomId.{AtomId}
-use Rattle.mc_base.specs.declared.kind.Kind.{Kind}
-use Rattle.mc_base.specs.declared.kind.Kind.TheVariants.{NoPlacement}
-use Rattle.mc_base.specs.declared.refusal.Refusal.{Refusal}
-use Rattle.mc_base.specs.Kinds.{number}
-use Rattle.mc_base.specs.Shown.{HasReason}
-use Rattle.mc_base.proofs.AllKinds.{same_number}
-use Rattle.mc_mol.specs.Molecule.{Molecule}
-use Rattle.mc_report.specs.Report.{ok_line, refused_line}
-use Rattle.smi_graph.specs.Skeletons.{IsNoBarrier}
+use Rattle.mc_report.specs.Report.{line_ends, line_end, IsOneLine}
+use Rattle.mc_report.proofs.OneLine.{ends_append, one_end, ok_one_line, refused_one_line}
 use Rattle.smi_mean.specs.Written.{written_order}
-use Rattle.mc_convert.specs.Records.{line}
-use Rattle.mc_convert.specs.Answers.{Reply, StandsIn, written_line, Shows, IsRefusedFor, IsAnswer, Answers, outs, reports}
+use Rattle.mc_convert.specs.Answers.{Reply, IsRefusedFor, IsAnswer, Answers, reports, IsPartOf}
+use Rattle.mc_io.specs.Outside.{Outputs}
+use Rattle.mc_convert.specs.Runs.{HoldsLess}
 
-no_barrier : (kind : Kind) (barrier : List AtomId) (odd : ℕ) → HasReason IsNoBarrier kind barrier odd → (barrier ≡ []) × (odd ≡ 0)
-no_barrier NoPlacement barrier odd h = absurd h
-no_barrier _ barrier odd h = h
+refused_one : (k : ℕ) (text : Option (List ℕ)) (reply : Reply) → IsRefusedFor k text reply → IsOneLine reply.report
+refused_one k text reply a =
+    let said = refused_one_line k a.refusal in record { text = said.text; ends = a.report ∙ said.ends; one = said.one }
 
-abbrev made : Kind → ℕ → List AtomId → ℕ → Refusal
-made kind place barrier odd = record { kind = kind; place = place; barrier = barrier; odd = odd }
+pub one_line : (k : ℕ) (text : Option (List ℕ)) (reply : Reply) → IsAnswer k text reply → IsOneLine reply.report
+one_line k None reply a = refused_one k None reply a
+one_line k (Some bytes) reply (inl a) =
+    let said = ok_one_line k 0 0 0 (written_order a.input) in record { text = said.text; ends = a.report ∙ said.ends; one = said.one }
+one_line k (Some bytes) reply (inr a) = refused_one k (Some bytes) reply a
 
--- a record shows one refusal
-one_refusal : (text : Option (List ℕ)) (r s : Refusal) → Shows text r → Shows text s → r ≡ s
-one_refusal text r s f g =
-    let kind : r.kind ≡ s.kind = elim (cases_lt (number r.kind) (number s.kind)) [
-      | inl less ↦ absurd (g.first r.kind r.place less f.stands)
-      | inr more ↦ elim (cases_lt (number s.kind) (number r.kind)) [
-        | inl less ↦ absurd (f.first s.kind s.place less g.stands)
-        | inr same ↦ same_number r.kind s.kind (omega arith)
-      ]
-    ] in
-    let low = f.least s.place (subst (λ (k : Kind). StandsIn text k s.place) (sym kind) g.stands) in
-    let high = g.least r.place (subst (λ (k : Kind). StandsIn text k r.place) kind f.stands) in
-    let place : r.place ≡ s.place = omega arith in
-    let a = no_barrier r.kind r.barrier r.odd f.reason in
-    let b = no_barrier s.kind s.barrier s.odd g.reason in
-    parts r.kind s.kind r.place s.place r.barrier s.barrier r.odd s.odd kind place (a.0 ∙ sym b.0) (a.1 ∙ sym b.1)
+-- as many lines as records
+pub all_lines : (k : ℕ) (texts : List (Option (List ℕ))) (replies : List Reply) → Answers k texts replies → line_ends (reports replies) ≡ length texts
+all_lines k [] [] answers = refl
+all_lines k [] (r ∷ replies) answers = absurd answers
+all_lines k (t ∷ texts) [] answers = absurd answers
+all_lines k (t ∷ texts) (r ∷ replies) (one, more) =
+    let joined = ends_append r.report (reports replies) in
+    let first = one_end r.report (one_line k t r one) in
+    let rest = all_lines (k + 1) texts replies more in omega arith
+
+-- what stands behind a byte
+behind : (b : ℕ) (bytes : List ℕ) → line_ends (b ∷ bytes) ≡ 0 → line_ends bytes ≡ 0
+behind b bytes none = by_byte (b == 10) none
   where
-    parts : (k l : Kind) (p q : ℕ) (x y : List AtomId) (m n : ℕ) → k ≡ l → p ≡ q → x ≡ y → m ≡ n → made k p x m ≡ made l q y n
-    parts k l p q x y m n e f g h = cc
+    by_byte : (t : Bool) → cond t (1 + line_ends bytes) (line_ends bytes) ≡ 0 → line_ends bytes ≡ 0
+    by_byte true e = absurd (omega arith)
+    by_byte false e = e
 
--- two replies of the same lengths
-pub record SameLengths (r s : Reply) : Type 0 where
-  pub out : length r.out ≡ length s.out
-  pub report : length r.report ≡ length s.report
+same_behind : (b c : ℕ) (bytes others : List ℕ) → b ∷ bytes ≡ c ∷ others → (b ≡ c) × (bytes ≡ others)
+same_behind b c bytes others e = (cc, cc)
 
-refused_lengths : (k : ℕ) (text : Option (List ℕ)) (r s : Reply) → IsRefusedFor k text r → IsRefusedFor k text s → SameLengths r s
-refused_lengths k text r s a b =
-    let same : a.refusal ≡ b.refusal = one_refusal text a.refusal b.refusal a.shows b.shows in record {
-      out = ap (λ (x : List ℕ). length x) a.out ∙ sym (ap (λ (x : List ℕ). length x) b.out);
-      report = ap (λ (x : List ℕ). length x) a.report ∙ ap (λ (x : Refusal). length (refused_line k x)) same ∙ sym (ap (λ (x : List ℕ). length x) b.report);
-    }
+-- a front of a line that isn't all of it has no line end
+pub front_clear : (part rest text : List ℕ) → text ++ line_end ≡ part ++ rest → length part < length (text ++ line_end) → line_ends text ≡ 0 → line_ends part ≡ 0
+front_clear [] rest text is less none = refl
+front_clear (p ∷ part) rest [] is less none = absurd (omega arith)
+front_clear (p ∷ part) rest (t ∷ text) is less none =
+    let same = same_behind t p (text ++ line_end) (part ++ rest) is in
+    let later = front_clear part rest text same.1 (omega arith) (behind t text none) in
+    ap (λ (b : ℕ). line_ends (b ∷ part)) (sym same.0) ∙ front (t == 10) none later
+  where
+    front : (b : Bool) → cond b (1 + line_ends text) (line_ends text) ≡ 0 → line_ends part ≡ 0 → cond b (1 + line_ends part) (line_ends part) ≡ 0
+    front true e later = absurd (omega arith)
+    front false e later = later
 
--- the lengths of what is written for a record
-pub same_lengths : (k : ℕ) (text : Option (List ℕ)) (r s : Reply) → IsAnswer k text r → IsAnswer k text s → SameLengths r s
-same_lengths k None r s a b = refused_lengths k None r s a b
-same_lengths k (Some bytes) r s (inl a) (inl b) =
-    let m : a.input ≡ b.input = a.stands.molecule ∙ sym b.stands.molecule in record {
-      out = ap (λ (x : List ℕ). length x) a.form ∙ ap (λ (x : Molecule). length (line (written_line x bytes))) m ∙ sym (ap (λ (x : List ℕ). length x) b.form);
-      report = ap (λ (x : List ℕ). length x) a.report ∙ ap (λ (x : Molecule). length (ok_line k (written_order x) 0 0 0)) m ∙ sym (ap (λ (x : List ℕ). length x) b.report);
-    }
-same_lengths k (Some bytes) r s (inl a) (inr b) = absurd (a.stands.accepted b.refusal.kind b.refusal.place b.shows.stands)
-same_lengths k (Some bytes) r s (inr a) (inl b) = absurd (b.stands.accepted a.refusal.kind a.refusal.place a.shows.stands)
-same_lengths k (Some bytes) r s (inr a) (inr b) = refused_lengths k (Some bytes) r s a b
+-- a part of an answer that isn't all of it has no line end in the report
+pub part_clear : (k : ℕ) (text : Option (List ℕ)) (reply : Reply) (old new : Outputs) → IsAnswer k text reply → (held : HoldsLess reply old new) → line_ends held.part1 ≡ 0
+part_clear k text reply old new answer held = by_part held.part
+  where
+    within : length held.part1 < length reply.report → (rest : List ℕ) → reply.report ≡ held.part1 ++ rest → line_ends held.part1 ≡ 0
+    within less rest joined =
+        let line = one_line k text reply answer in
+        let whole = ap (λ (x : List ℕ). length x) line.ends in
+        front_clear held.part1 rest line.text (sym line.ends ∙ joined) (omega arith) line.one
 
--- Less than the answer to one record, behind the answers to those before it, is less than the answers to all.
-pub less_than_all : (k : ℕ) (before : List (Option (List ℕ))) (text : Option (List ℕ)) (later : List (Option (List ℕ))) (replies : List Reply) (reply : Reply) (all : List Reply) (n : ℕ)
-    → Answers k before replies → IsAnswer (k + length before) text reply → n < length reply.out + length reply.report → Answers k (before ++ text ∷ later) all
-    → length (outs replies) + length (reports replies) + n < length (outs all) + length (reports all)
-less_than_all k [] text later (r ∷ replies) reply all n answers answer less whole = absurd answers
-less_than_all k (t ∷ before) text later [] reply all n answers answer less whole = absurd answers
-less_than_all k [] text later [] reply [] n answers answer less whole = absurd whole
-less_than_all k (t ∷ before) text later (r ∷ replies) reply [] n answers answer less whole = absurd whole
-less_than_all k [] text later [] reply (s ∷ all) n answers answer less (first, rest) =
-    let P : ℕ → Type 0 = λ i. IsAnswer i text reply in
-    let same = same_lengths k text reply s (subst P (omega arith) answer) first in
-    let out = same.out in
-    let report = same.report in
-    let a = length-append s.out (outs all) in
-    let b = length-append s.report (reports all) in omega arith
-less_than_all k (t ∷ before) text later (r ∷ replies) reply (s ∷ all) n (one, more) answer less (first, rest) =
-    let P : ℕ → Type 0 = λ i. IsAnswer i text reply in
-    let place : k + length (t ∷ before) ≡ k + 1 + length before = omega arith in
-    let behind = less_than_all (k + 1) before text later replies reply all n more (subst P place answer) less rest in
-    let same = same_lengths k t r s one first in
-    let out = same.out in
-    let report = same.report in
-    let a = length-append s.out (outs all) in
-    let b = length-append s.report (reports all) in
-    let c = length-append r.out (outs replies) in
-    let d = length-append r.report (reports replies) in omega arith
+    by_part : IsPartOf reply held.part0 held.part1 → line_ends held.part1 ≡ 0
+    by_part (inl (front, none)) = ap line_ends none
+    by_part (inr (whole, (rest, joined))) =
+        let less = held.less in
+        let out = ap (λ (x : List ℕ). length x) whole in within (omega arith) rest joined

@@ -1,53 +1,46 @@
 -- Steps of reading, put together.
-use Rattle.std.proofs.Common.{arith, ◌≡◌, ◌∙◌, ℕ, ◌+◌, ◌-◌, ◌≤◌, Bool, List, [], ◌++◌, Option, Some, None, refl, sym, ap}
-use Rattle.std.proofs.lemmas.List.{append_assoc}
+use Rattle.std.proofs.Common.{arith, ◌≡◌, ◌∙◌, ℕ, ◌≤◌, ◌==◌, true, List, length, [], ◌∷◌, ◌++◌, filter, Option, Some, None, refl, sym, ap, subst}
+use Rattle.std.proofs.lemmas.Bool.Decides.{nat_tests}
+use Rattle.std.proofs.lemmas.List.{append_assoc, length-append}
 use Rattle.mc_io.specs.Causes.{Rose}
-use Rattle.mc_io.specs.Outside.{SameBut}
-use Rattle.mc_io.specs.LineReader.{LineReader}
-use Rattle.mc_convert.specs.Records.{records}
-use Rattle.mc_convert.specs.Readers.{Told, told, Reading, TakesRecords}
-
--- ---- what a source tells
-
--- an input that stays the same stays so in each of the four words
-pub told_left : (k : ℕ) (l m : ℕ → Option (List ℕ)) (f g t u : ℕ → ℕ) (d e : ℕ → Bool) → SameBut k (told l f t d) (told m g u e) → SameBut k l m
-told_left k l m f g t u d e h = λ i other. ap (λ (t : Told). t.left) (h i other)
-
-pub told_faults : (k : ℕ) (l m : ℕ → Option (List ℕ)) (f g t u : ℕ → ℕ) (d e : ℕ → Bool) → SameBut k (told l f t d) (told m g u e) → SameBut k f g
-told_faults k l m f g t u d e h = λ i other. ap (λ (t : Told). t.faults) (h i other)
-
-pub told_taken : (k : ℕ) (l m : ℕ → Option (List ℕ)) (f g t u : ℕ → ℕ) (d e : ℕ → Bool) → SameBut k (told l f t d) (told m g u e) → SameBut k t u
-told_taken k l m f g t u d e h = λ i other. ap (λ (t : Told). t.taken) (h i other)
-
-pub told_ended : (k : ℕ) (l m : ℕ → Option (List ℕ)) (f g t u : ℕ → ℕ) (d e : ℕ → Bool) → SameBut k (told l f t d) (told m g u e) → SameBut k d e
-told_ended k l m f g t u d e h = λ i other. ap (λ (t : Told). t.ended) (h i other)
+use Rattle.mc_io.specs.Outside.{SameBut, Input}
+use Rattle.mc_io.specs.Lines.{lines_of}
+use Rattle.mc_io.specs.LineReader.{LineReader, Reading, TakesLines}
+use Rattle.mc_io.proofs.Takings.{takes_none as none_taken, takes_trans as more_taken}
+use Rattle.mc_convert.specs.Records.{is_record, records}
+use Rattle.mc_convert.specs.Readers.{TakesRecords}
 
 -- the same by way of a time between
 pub same_but_trans : {A : Type 0} (k : ℕ) (a b c : ℕ → A) → SameBut k a b → SameBut k b c → SameBut k a c
 same_but_trans k a b c p q = λ i other. q i other ∙ p i other
 
--- ---- one reader
-
 -- nothing was taken
-pub reading_none : (reader : LineReader) (now : Told) → Reading reader reader now now
-reading_none reader now = record { input = refl; more = omega arith; few = λ less. less; counted = λ less. omega arith; at_end = λ ends. ends; later = omega arith }
+pub reading_none : (reader : LineReader) (now : Input) → Reading reader reader now now
+reading_none reader now = record { input = refl; bytes = []; takes = none_taken now; taken = omega arith; few = λ less. less; at_end = λ ends. ends }
 
 -- more was taken
-pub reading_trans : (a b c : LineReader) (x y z : Told) → Reading a b x y → Reading b c y z → Reading a c x z
+pub reading_trans : (a b c : LineReader) (x y z : Input) → Reading a b x y → Reading b c y z → Reading a c x z
 reading_trans a b c x y z p q =
-    let first = p.more in
-    let second = q.more in
-    let low = p.later in
-    let high = q.later in record {
+    let first = p.taken in
+    let second = q.taken in
+    let more = length-append p.bytes q.bytes in record {
       input = q.input ∙ p.input;
-      more = omega arith;
+      bytes = p.bytes ++ q.bytes;
+      takes = more_taken x y z p.bytes q.bytes p.takes q.takes;
+      taken = omega arith;
       few = λ less. q.few (p.few less);
-      counted = λ less.
-          let one : y.taken ≡ x.taken + (b.taken - a.taken) = p.counted (omega arith) in
-          let two : z.taken ≡ y.taken + (c.taken - b.taken) = q.counted (omega arith) in omega arith;
       at_end = λ ends. q.at_end (p.at_end ends);
-      later = omega arith;
     }
+
+-- the same by the inputs of the readers
+pub reading_on : (start now next : LineReader) (x y z : ℕ → Input) → now.input ≡ start.input → Reading start now (x start.input) (y start.input) → Reading now next (y now.input) (z now.input)
+    → Reading start next (x start.input) (z start.input)
+reading_on start now next x y z same p q =
+    let P : ℕ → Type 0 = λ i. Reading now next (y i) (z i) in
+    reading_trans start now next (x start.input) (y start.input) (z start.input) p (subst P same q)
+
+pub same_on : {A : Type 0} (k j : ℕ) (x y z : ℕ → A) → j ≡ k → SameBut k x y → SameBut j y z → SameBut k x z
+same_on k j x y z same p q = same_but_trans k x y z p (subst (λ (i : ℕ). SameBut i y z) same q)
 
 -- a rise counts from any earlier time
 pub rose_later : (a b c : ℕ) → a ≤ b → Rose b c → Rose a c
@@ -61,6 +54,20 @@ takes_trans None b c xs ys p q = tt
 takes_trans (Some a) None c xs ys p q = absurd p
 takes_trans (Some a) (Some b) None xs ys p q = absurd q
 takes_trans (Some a) (Some b) (Some c) xs ys p q = p ∙ ap (λ l. xs ++ l) q ∙ sym (append_assoc xs ys (records c))
+
+-- an empty line is no record
+pub empty_passed : (input all rest : Option (List ℕ)) (text : List ℕ) → TakesRecords input all [] → TakesLines all rest (Some text ∷ []) → text ≡ [] → TakesRecords input rest []
+empty_passed None all rest text first takes none = tt
+empty_passed (Some i) None rest text first takes none = absurd first
+empty_passed (Some i) (Some a) None text first takes none = absurd takes
+empty_passed (Some i) (Some a) (Some r) text first takes none = first ∙ ap (filter is_record) (takes ∙ ap (λ (t : List ℕ). Some t ∷ lines_of r) none)
+
+pub is_empty_text : (line text : List ℕ) → line ≡ text → true ≡ (length line == 0) → text ≡ []
+is_empty_text [] text same none = sym same
+is_empty_text (b ∷ line) text same none = let is = is_zero (length (b ∷ line)) none in absurd (omega arith)
+  where
+    is_zero : (n : ℕ) → true ≡ (n == 0) → n ≡ 0
+    is_zero n is = grind (arith, nat_tests)
 
 -- none
 pub takes_none : (a : Option (List ℕ)) → TakesRecords a a []

@@ -1,5 +1,5 @@
 -- What the outputs have got while a run answers records, and when it ends.
-use Rattle.std.proofs.Common.{◌≡◌, ℕ, ◌+◌, ◌-◌, ◌<◌, ◌≤◌, ◌^◌, List, [], ◌∷◌, ◌++◌, length, take, drop, Option, Some, None, Bool, true, false, refl, ap, sym, ◌∙◌, subst, inl, inr, arith}
+use Rattle.std.proofs.Common.{◌≡◌, ℕ, ◌+◌, ◌≤◌, List, [], ◌∷◌, ◌++◌, length, take, drop, Option, Some, None, Bool, true, false, refl, ap, sym, ◌∙◌, subst, inl, inr, arith}
 use Rattle.std.specs.Prelude.{◌⊎◌, ◌↔◌, ◌||◌, IsTrue, IfSome, Result, Ok, Err}
 use Rattle.std.proofs.lemmas.Bool.{false≢true}
 use Rattle.std.specs.Io.KnownBytes.{Appends, IsAtEnd, prepend_known}
@@ -7,30 +7,32 @@ use Rattle.std.proofs.KnownBytes.{Appends-nil, Appends-trans, prepend_known-nil}
 use Rattle.std.proofs.lemmas.List.{append_assoc, append-nil, length-append, length-take, take-append-drop}
 use Rattle.mc_io.specs.declared.whole.ReadStop.{ReadStop}
 use Rattle.mc_io.specs.declared.whole.ReadStop.TheVariants.{ReadFault, InputLimit, NoMemory}
-use Rattle.mc_io.specs.Outside.{AppendsPart, SameBut}
-use Rattle.mc_io.specs.LineReader.{LineReader, ahead}
+use Rattle.mc_io.specs.Outside.{AppendsPart, SameBut, Input, Outputs}
+use Rattle.mc_io.specs.LineReader.{LineReader, ahead, Reading, fresh}
 use Rattle.mc_convert.specs.declared.records.NextLine.{NextLine}
 use Rattle.mc_convert.specs.declared.records.NextLine.TheVariants.{Line, TooLong, End}
 use Rattle.mc_convert.specs.declared.status.Halt.{Halt}
 use Rattle.mc_convert.specs.declared.status.Halt.TheVariants.{ReadFault as ReadHalt, InputLimit as LimitHalt, WriteFault as WriteHalt, NoMemory as MemoryHalt}
-use Rattle.mc_convert.specs.declared.status.Status.TheVariants.{Done, SomeRefused, Memory}
+use Rattle.mc_convert.specs.declared.status.Status.TheVariants.{Memory}
 use Rattle.mc_convert.specs.Records.{records}
-use Rattle.mc_convert.specs.Readers.{Told, Reading, HasEnded, TakesRecords, GivesRecord, found, fresh, passed_by}
-use Rattle.mc_convert.specs.Answers.{Reply, IsAnswer, Answers, outs, reports, Whole, Stopped, IsLessThanWhole}
-use Rattle.mc_convert.specs.Runs.{Grown, AnswersSome, AnswersLess, IsShown, SomeShown, AllIsHeld, Held, Holds, HoldsLess, RanWhole, HasStopped}
+use Rattle.mc_report.specs.Report.{line_ends}
+use Rattle.mc_report.proofs.OneLine.{ends_append}
+use Rattle.mc_convert.specs.Readers.{HasEnded, TakesRecords, GivesRecord, found, passed_by}
+use Rattle.mc_convert.specs.Answers.{Reply, IsAnswer, Answers, outs, reports, Whole, Stopped, LacksLine}
+use Rattle.mc_convert.specs.Runs.{Grown, AnswersSome, AnswersLess, IsShown, SomeShown, AllIsHeld, Holds, HoldsLess, RanWhole, HasStopped, IsWhole}
 use Rattle.mc_convert.specs.Statuses.{halt_of, status_of}
 use Rattle.mc_convert.proofs.ReaderSteps.{takes_trans, takes_none, reading_trans, same_but_trans, rose_later}
-use Rattle.mc_convert.proofs.OneAnswer.{less_than_all}
+use Rattle.mc_convert.proofs.OneAnswer.{all_lines, part_clear}
 
 -- The records that were answered so far.
-pub record Progress (number : ℕ) (refused : Bool) (input ahead : Option (List ℕ)) (old new : Held) : Type 0 where
+pub record Progress (number : ℕ) (refused : Bool) (input ahead : Option (List ℕ)) (old new : Outputs) : Type 0 where
   pub done : List (Option (List ℕ))
   pub replies : List Reply
   pub count : length done ≡ number
   pub takes : TakesRecords input ahead done
   pub answers : Answers 1 done replies
-  pub in_out : Appends old.out new.out (outs replies)
-  pub in_report : Appends old.report new.report (reports replies)
+  pub in_out : Appends (old.held 0) (new.held 0) (outs replies)
+  pub in_report : Appends (old.held 1) (new.held 1) (reports replies)
   pub shown : IsTrue refused ↔ SomeShown done
 
 -- ---- lists of answers
@@ -42,8 +44,8 @@ answers_push k [] (r ∷ replies) text reply h a = absurd h
 answers_push k (t ∷ done) [] text reply h a = absurd h
 answers_push k (t ∷ done) (r ∷ replies) text reply (one, more) a =
     let P : ℕ → Type 0 = λ i. IsAnswer i text reply in
-    let place : k + length (t ∷ done) ≡ k + 1 + length done = omega arith in
-    (one, answers_push (k + 1) done replies text reply more (subst P place a))
+    let at_number : k + length (t ∷ done) ≡ k + 1 + length done = omega arith in
+    (one, answers_push (k + 1) done replies text reply more (subst P at_number a))
 
 answers_count : (k : ℕ) (done : List (Option (List ℕ))) (replies : List Reply) → Answers k done replies → length done ≡ length replies
 answers_count k [] [] h = refl
@@ -90,7 +92,7 @@ if_some (Some x) P Q f h = f x h
 
 -- ---- from the first record to the next
 
-pub begun : (input : Option (List ℕ)) (held : Held) → Progress 0 false input (prepend_known [] input) held held
+pub begun : (input : Option (List ℕ)) (held : Outputs) → Progress 0 false input (prepend_known [] input) held held
 begun input held =
     let P : Option (List ℕ) → Type 0 = λ x. TakesRecords input x [] in record {
       done = [];
@@ -98,28 +100,28 @@ begun input held =
       count = refl;
       takes = subst P (sym (prepend_known-nil input)) (takes_none input);
       answers = tt;
-      in_out = Appends-nil held.out;
-      in_report = Appends-nil held.report;
+      in_out = Appends-nil (held.held 0);
+      in_report = Appends-nil (held.held 1);
       shown = (λ on. absurd (false≢true on), λ h. absurd h);
     }
 
-pub went_on : (n m : ℕ) (r b : Bool) (input ahead rest : Option (List ℕ)) (old mid new : Held) (text : Option (List ℕ)) (reply : Reply)
+pub went_on : (n m : ℕ) (r b : Bool) (input ahead rest : Option (List ℕ)) (old mid new : Outputs) (text : Option (List ℕ)) (reply : Reply)
     → Progress n r input ahead old mid → TakesRecords ahead rest (text ∷ []) → m ≡ n + 1 → IsAnswer m text reply → (IsTrue b ↔ IsShown text) → Holds reply mid new
     → Progress m (r || b) input rest old new
 went_on n m r b input ahead rest old mid new text reply p takes next answer shown held =
     let count = p.count in
     let Numbered : ℕ → Type 0 = λ i. IsAnswer i text reply in
-    let place : m ≡ 1 + length p.done = omega arith in
-    let Out : List ℕ → Type 0 = λ l. Appends old.out new.out l in
-    let Report : List ℕ → Type 0 = λ l. Appends old.report new.report l in
+    let at_number : m ≡ 1 + length p.done = omega arith in
+    let Out : List ℕ → Type 0 = λ l. Appends (old.held 0) (new.held 0) l in
+    let Report : List ℕ → Type 0 = λ l. Appends (old.held 1) (new.held 1) l in
     let more = length-append p.done (text ∷ []) in record {
       done = p.done ++ text ∷ [];
       replies = p.replies ++ reply ∷ [];
       count = omega arith;
       takes = takes_trans input ahead rest p.done (text ∷ []) p.takes takes;
-      answers = answers_push 1 p.done p.replies text reply p.answers (subst Numbered place answer);
-      in_out = subst Out (sym (outs_push p.replies reply)) (Appends-trans old.out mid.out new.out (outs p.replies) reply.out p.in_out held.in_out);
-      in_report = subst Report (sym (reports_push p.replies reply)) (Appends-trans old.report mid.report new.report (reports p.replies) reply.report p.in_report held.in_report);
+      answers = answers_push 1 p.done p.replies text reply p.answers (subst Numbered at_number answer);
+      in_out = subst Out (sym (outs_push p.replies reply)) (Appends-trans (old.held 0) (mid.held 0) (new.held 0) (outs p.replies) reply.out p.in_out held.in_out);
+      in_report = subst Report (sym (reports_push p.replies reply)) (Appends-trans (old.held 1) (mid.held 1) (new.held 1) (reports p.replies) reply.report p.in_report held.in_report);
       shown = either_shown r b p.done text p.shown shown;
     }
 
@@ -134,7 +136,7 @@ one_passed Line some = refl
 one_passed TooLong some = refl
 one_passed End some = absurd (some refl)
 
-pub is_within : (limit : ℕ) (next : NextLine) (new : LineReader) (before after : Told) → HasEnded limit (Ok next) new before after → new.taken ≤ limit
+pub is_within : (limit : ℕ) (next : NextLine) (new : LineReader) (before after : Input) → HasEnded limit (Ok next) new before after → new.taken ≤ limit
 is_within limit Line new before after h = h
 is_within limit TooLong new before after h = h
 is_within limit End new before after h = h.0
@@ -147,13 +149,13 @@ all_taken (Some a) None rest done first last none = absurd first
 all_taken (Some a) (Some b) None done first last none = absurd last
 all_taken (Some a) (Some b) (Some c) done first last none = sym (first ∙ ap (λ l. done ++ l) (last ∙ ap records none) ∙ append-nil done)
 
-pub ran_whole : (n : ℕ) (r : Bool) (ahead rest : Option (List ℕ)) (before after : Told) (old new : Held)
+pub ran_whole : (n : ℕ) (r : Bool) (ahead rest : Option (List ℕ)) (before after : Input) (old new : Outputs)
     → Progress n r before.left ahead old new → TakesRecords ahead rest [] → IsAtEnd rest → IsTrue after.ended → RanWhole r before after old new
 ran_whole n r ahead rest before after old new p takes none ended =
     let all = all_taken before.left ahead rest p.done p.takes takes none in
     let Same : List ℕ → Type 0 = λ bytes. p.done ≡ records bytes in record {
       at_end = ended;
-      all = if_some before.left Same (λ bytes. Grown old.out new.out old.report new.report (Whole (records bytes))) (λ bytes is. record {
+      all = if_some before.left Same (λ bytes. Grown old new (Whole (records bytes))) (λ bytes is. record {
         more0 = outs p.replies;
         more1 = reports p.replies;
         out = p.in_out;
@@ -211,9 +213,9 @@ stopped_whole texts done rest replies is answers = by_end (ends_with replies)
           report = ap reports e.is ∙ reports_push e.before e.last;
         })
 
-pub stopped_between : (n : ℕ) (r : Bool) (input ahead : Option (List ℕ)) (old new : Held) → Progress n r input ahead old new → AnswersSome input old.out new.out old.report new.report
+pub stopped_between : (n : ℕ) (r : Bool) (input ahead : Option (List ℕ)) (old new : Outputs) → Progress n r input ahead old new → AnswersSome input old new
 stopped_between n r input ahead old new p =
-    if_some input (IsFront p.done) (λ bytes. Grown old.out new.out old.report new.report (Stopped (records bytes))) (λ bytes f. record {
+    if_some input (IsFront p.done) (λ bytes. Grown old new (Stopped (records bytes))) (λ bytes f. record {
       more0 = outs p.replies;
       more1 = reports p.replies;
       out = p.in_out;
@@ -222,23 +224,23 @@ stopped_between n r input ahead old new p =
     }) (front_taken input ahead p.done p.takes)
 
 -- within an answer
-pub stopped_within : (n m : ℕ) (r : Bool) (input ahead rest : Option (List ℕ)) (old mid new : Held) (text : Option (List ℕ)) (reply : Reply)
+pub stopped_within : (n m : ℕ) (r : Bool) (input ahead rest : Option (List ℕ)) (old mid new : Outputs) (text : Option (List ℕ)) (reply : Reply)
     → Progress n r input ahead old mid → TakesRecords ahead rest (text ∷ []) → m ≡ n + 1 → IsAnswer m text reply → HoldsLess reply mid new
-    → AnswersSome input old.out new.out old.report new.report
+    → AnswersSome input old new
 stopped_within n m r input ahead rest old mid new text reply p takes next answer held =
     let done : List (Option (List ℕ)) = p.done ++ text ∷ [] in
     let count = p.count in
     let Numbered : ℕ → Type 0 = λ i. IsAnswer i text reply in
-    let place : m ≡ 1 + length p.done = omega arith in
-    let answers : Answers 1 done (p.replies ++ reply ∷ []) = answers_push 1 p.done p.replies text reply p.answers (subst Numbered place answer) in
+    let at_number : m ≡ 1 + length p.done = omega arith in
+    let answers : Answers 1 done (p.replies ++ reply ∷ []) = answers_push 1 p.done p.replies text reply p.answers (subst Numbered at_number answer) in
     let same = answers_count 1 p.done p.replies p.answers in
     let more = length-append p.done (text ∷ []) in
     let Of : List (Option (List ℕ)) → Type 0 = λ x. Answers 1 x (p.replies ++ reply ∷ []) in
-    if_some input (IsFront done) (λ bytes. Grown old.out new.out old.report new.report (Stopped (records bytes))) (λ bytes f. record {
+    if_some input (IsFront done) (λ bytes. Grown old new (Stopped (records bytes))) (λ bytes f. record {
       more0 = outs p.replies ++ held.part0;
       more1 = reports p.replies ++ held.part1;
-      out = Appends-trans old.out mid.out new.out (outs p.replies) held.part0 p.in_out held.in_out;
-      report = Appends-trans old.report mid.report new.report (reports p.replies) held.part1 p.in_report held.in_report;
+      out = Appends-trans (old.held 0) (mid.held 0) (new.held 0) (outs p.replies) held.part0 p.in_out held.in_out;
+      report = Appends-trans (old.held 1) (mid.held 1) (new.held 1) (reports p.replies) held.part1 p.in_report held.in_report;
       holds = inr (record {
         before = p.replies;
         last = reply;
@@ -251,60 +253,47 @@ stopped_within n m r input ahead rest old mid new text reply p takes next answer
       });
     }) (front_taken input rest done (takes_trans input ahead rest p.done (text ∷ []) p.takes takes))
 
--- less than all is held there
-pub less_within : (n m : ℕ) (r : Bool) (input ahead rest : Option (List ℕ)) (old mid new : Held) (text : Option (List ℕ)) (reply : Reply)
-    → Progress n r input ahead old mid → TakesRecords ahead rest (text ∷ []) → m ≡ n + 1 → IsAnswer m text reply → HoldsLess reply mid new
-    → AnswersLess input old.out new.out old.report new.report
-less_within n m r input ahead rest old mid new text reply p takes next answer held =
+-- the report lacks a line there
+pub less_within : (n m : ℕ) (r : Bool) (input ahead rest : Option (List ℕ)) (old mid new : Outputs) (text : Option (List ℕ)) (reply : Reply)
+    → Progress n r input ahead old mid → TakesRecords ahead rest (text ∷ []) → IsAnswer m text reply → HoldsLess reply mid new
+    → AnswersLess input old new
+less_within n m r input ahead rest old mid new text reply p takes answer held =
     let done : List (Option (List ℕ)) = p.done ++ text ∷ [] in
-    let count = p.count in
-    let Numbered : ℕ → Type 0 = λ i. IsAnswer i text reply in
-    let place : m ≡ 1 + length p.done = omega arith in
-    let less = held.less in
-    let a = length-append (outs p.replies) held.part0 in
-    let b = length-append (reports p.replies) held.part1 in
-    if_some input (IsFront done) (λ bytes. Grown old.out new.out old.report new.report (IsLessThanWhole (records bytes))) (λ bytes f. record {
+    if_some input (IsFront done) (λ bytes. Grown old new (LacksLine (records bytes))) (λ bytes f. record {
       more0 = outs p.replies ++ held.part0;
       more1 = reports p.replies ++ held.part1;
-      out = Appends-trans old.out mid.out new.out (outs p.replies) held.part0 p.in_out held.in_out;
-      report = Appends-trans old.report mid.report new.report (reports p.replies) held.part1 p.in_report held.in_report;
-      holds = λ all answers.
-          let joined : records bytes ≡ p.done ++ text ∷ f.rest = f.is ∙ append_assoc p.done (text ∷ []) f.rest in
-          let Of : List (Option (List ℕ)) → Type 0 = λ x. Answers 1 x all in
-          let whole = less_than_all 1 p.done text f.rest p.replies reply all (length held.part0 + length held.part1) p.answers (subst Numbered place answer) less (subst Of joined answers) in
-          omega arith;
+      out = Appends-trans (old.held 0) (mid.held 0) (new.held 0) (outs p.replies) held.part0 p.in_out held.in_out;
+      report = Appends-trans (old.held 1) (mid.held 1) (new.held 1) (reports p.replies) held.part1 p.in_report held.in_report;
+      holds = (
+          let ends = ends_append (reports p.replies) held.part1 in
+          let before = all_lines 1 p.done p.replies p.answers in
+          let part = part_clear m text reply mid new answer held in
+          let all = ap (λ (x : List (Option (List ℕ))). length x) f.is in
+          let joined = length-append done f.rest in
+          let more = length-append p.done (text ∷ []) in
+          omega arith);
     }) (front_taken input rest done (takes_trans input ahead rest p.done (text ∷ []) p.takes takes))
 
 -- ---- causes
 
-pub read_stopped : (stop : ReadStop) (limit : ℕ) (new : LineReader) (start before after : Told) (a b : Held) → start.faults ≤ before.faults → HasEnded limit (Err stop) new before after
+pub read_stopped : (stop : ReadStop) (limit : ℕ) (new : LineReader) (start before after : Input) (a b : Outputs) → start.faults ≤ before.faults → HasEnded limit (Err stop) new before after
     → HasStopped (halt_of stop) start after a b
 read_stopped ReadFault limit new start before after a b later h = (rose_later start.faults before.faults after.faults later h.1, h.2)
 read_stopped InputLimit limit new start before after a b later h = h.1
 read_stopped NoMemory limit new start before after a b later h = tt
 
--- what was taken is what the reader counts
-pub taken_is : (reader : LineReader) (start now : Told) → Reading (fresh 0) reader start now → start.taken < 2 ^ 127 → now.taken ≡ start.taken + reader.taken
-taken_is reader start now h less =
-    let few = h.few (omega arith) in
-    let is : now.taken ≡ start.taken + (reader.taken - 0) = h.counted (omega arith) in omega arith
-
-abbrev stopped_by : Halt → Result Bool Halt
-stopped_by halt = Err halt
-
 -- how the reader and the source stand behind one more record
-pub record Stepped (limit : ℕ) (next : Result NextLine ReadStop) (new : LineReader) (start mid now : ℕ → Told) : Type 0 where
+pub record Stepped (limit : ℕ) (next : Result NextLine ReadStop) (new : LineReader) (start mid now : ℕ → Input) : Type 0 where
   pub reading : Reading (fresh 0) new (start 0) (now 0)
   pub ended : HasEnded limit next new (mid 0) (now 0)
   pub others : SameBut 0 start now
   pub input : new.input ≡ 0
-  pub taken : (now 0).taken ≡ (start 0).taken + new.taken
 
-pub stepped : (limit : ℕ) (next : Result NextLine ReadStop) (reader new : LineReader) (start mid now : ℕ → Told)
-    → reader.input ≡ 0 → (start 0).taken < 2 ^ 127 → Reading (fresh 0) reader (start 0) (mid 0) → SameBut 0 start mid
+pub stepped : (limit : ℕ) (next : Result NextLine ReadStop) (reader new : LineReader) (start mid now : ℕ → Input)
+    → reader.input ≡ 0 → Reading (fresh 0) reader (start 0) (mid 0) → SameBut 0 start mid
     → Reading reader new (mid reader.input) (now reader.input) → HasEnded limit next new (mid reader.input) (now reader.input) → SameBut reader.input mid now
     → Stepped limit next new start mid now
-stepped limit next reader new start mid now input few before kept step ended same =
+stepped limit next reader new start mid now input before kept step ended same =
     let P : ℕ → Type 0 = λ i. Reading reader new (mid i) (now i) in
     let Q : ℕ → Type 0 = λ i. HasEnded limit next new (mid i) (now i) in
     let R : ℕ → Type 0 = λ i. SameBut i mid now in
@@ -313,53 +302,39 @@ stepped limit next reader new start mid now input few before kept step ended sam
       ended = subst Q input ended;
       others = same_but_trans 0 start mid now kept (subst R input same);
       input = step.input ∙ input;
-      taken = taken_is new (start 0) (now 0) reading few;
     }
 
-pub gives_at : (next : Result NextLine ReadStop) (reader new : LineReader) (before after : ℕ → Option (List ℕ)) → reader.input ≡ 0
-    → GivesRecord next (ahead reader (before reader.input)) (ahead new (after reader.input)) new.text → GivesRecord next (ahead reader (before 0)) (ahead new (after 0)) new.text
+pub gives_at : (next : Result NextLine ReadStop) (reader new : LineReader) (before after : ℕ → Input) → reader.input ≡ 0
+    → GivesRecord next (ahead reader (before reader.input).left) (ahead new (after reader.input).left) new.text → GivesRecord next (ahead reader (before 0).left) (ahead new (after 0).left) new.text
 gives_at next reader new before after input h =
-    let P : ℕ → Type 0 = λ i. GivesRecord next (ahead reader (before i)) (ahead new (after i)) new.text in subst P input h
+    let P : ℕ → Type 0 = λ i. GivesRecord next (ahead reader (before i).left) (ahead new (after i).left) new.text in subst P input h
 
-abbrev HitLimit : Halt → ℕ → ℕ → ℕ → Type 0
-HitLimit halt limit before after = (stopped_by halt ≡ stopped_by LimitHalt) ↔ (before + limit < after)
+-- ---- a report that lacks a line isn't all of the report
 
-pub limit_read : (stop : ReadStop) (limit : ℕ) (new : LineReader) (start before after : Told) → HasEnded limit (Err stop) new before after → after.taken ≡ start.taken + new.taken
-    → HitLimit (halt_of stop) limit start.taken after.taken
-limit_read ReadFault limit new start before after h is = let low = h.0 in (λ e. absurd cc, λ more. absurd (omega arith))
-limit_read InputLimit limit new start before after h is = let high = h.0 in (λ _. omega arith, λ _. refl)
-limit_read NoMemory limit new start before after h is = let low = h in (λ e. absurd cc, λ more. absurd (omega arith))
-
-pub limit_kept : {P : Type 0} (limit taken before after : ℕ) → (P → ⊥) → taken ≤ limit → after ≡ before + taken → P ↔ (before + limit < after)
-limit_kept limit taken before after other within is = (λ h. absurd (other h), λ more. absurd (omega arith))
-
--- ---- less than all answers and all of them aren't held both
-
-same_growth : (old new : Option (List ℕ)) (before grown more : List ℕ) → old ≡ Some before → new ≡ Some (before ++ grown) → Appends old new more → length grown ≡ length more
+same_growth : (old new : Option (List ℕ)) (before grown more : List ℕ) → old ≡ Some before → new ≡ Some (before ++ grown) → Appends old new more → line_ends grown ≡ line_ends more
 same_growth old new before grown more was is h =
     let one : Appends (Some before) new more = subst (λ (o : Option (List ℕ)). Appends o new more) was h in
     let two : before ++ grown ≡ before ++ more = subst (λ (o : Option (List ℕ)). Appends (Some before) o more) is one in
-    let a = length-append before grown in
-    let b = length-append before more in
-    let c = ap (λ (x : List ℕ). length x) two in omega arith
+    let a = ends_append before grown in
+    let b = ends_append before more in
+    let c = ap line_ends two in omega arith
 
-pub not_all_held : (input old0 new0 old1 new1 : Option (List ℕ)) → AnswersLess input old0 new0 old1 new1 → AllIsHeld input old0 new0 old1 new1 → ⊥
-not_all_held input old0 new0 old1 new1 some all =
+pub not_all_held : (input : Option (List ℕ)) (old new : Outputs) → AnswersLess input old new → AllIsHeld input old new → ⊥
+not_all_held input old new some all =
     let w = all.whole in
-    let less : Grown old0 new0 old1 new1 (IsLessThanWhole (records all.bytes)) = subst (λ (o : Option (List ℕ)). AnswersLess o old0 new0 old1 new1) all.input_is some in
-    let bound = less.holds w.replies w.answers in
-    let a = same_growth old0 new0 all.before0 all.grown0 less.more0 all.old0_is all.new0_is less.out in
-    let b = same_growth old1 new1 all.before1 all.grown1 less.more1 all.old1_is all.new1_is less.report in
-    let c = ap (λ (x : List ℕ). length x) w.out in
-    let d = ap (λ (x : List ℕ). length x) w.report in omega arith
+    let less : Grown old new (LacksLine (records all.bytes)) = subst (λ (o : Option (List ℕ)). AnswersLess o old new) all.input_is some in
+    let lacks = less.holds in
+    let same = same_growth (old.held 1) (new.held 1) all.before1 all.grown1 less.more1 all.old1_is all.new1_is less.report in
+    let lines = all_lines 1 (records all.bytes) w.replies w.answers in
+    let whole = ap line_ends w.report in omega arith
 
 -- no stop but want of memory comes where all is held
-pub only_memory : (halt : Halt) (before after : Told) (old new : Held) → HasStopped halt before after old new → IsTrue after.ended
-    → AllIsHeld before.left old.out new.out old.report new.report → (status_of halt ≡ Done) ⊎ ((status_of halt ≡ SomeRefused) ⊎ (status_of halt ≡ Memory))
+pub only_memory : (halt : Halt) (before after : Input) (old new : Outputs) → HasStopped halt before after old new → IsTrue after.ended
+    → AllIsHeld before.left old new → IsWhole (status_of halt) ⊎ (status_of halt ≡ Memory)
 only_memory ReadHalt before after old new h ended all = absurd (false≢true (sym h.1 ∙ ended))
 only_memory LimitHalt before after old new h ended all = absurd (false≢true (sym h ∙ ended))
-only_memory WriteHalt before after old new h ended all = absurd (not_all_held before.left old.out new.out old.report new.report h.1 all)
-only_memory MemoryHalt before after old new h ended all = inr (inr refl)
+only_memory WriteHalt before after old new h ended all = absurd (not_all_held before.left old new h.1 all)
+only_memory MemoryHalt before after old new h ended all = inr refl
 
 pub none_shown : (input : Option (List ℕ)) → IfSome input (λ all. IsTrue false ↔ SomeShown (records all)) → IfSome input (λ all. SomeShown (records all) → ⊥)
 none_shown None h = tt
@@ -371,25 +346,25 @@ some_shown (Some all) h = h.0 refl
 
 -- ---- the answer to one record
 
-pub nothing_held : (input : Option (List ℕ)) (held : Held) → AnswersSome input held.out held.out held.report held.report
+pub nothing_held : (input : Option (List ℕ)) (held : Outputs) → AnswersSome input held held
 nothing_held input held = stopped_between 0 false input (prepend_known [] input) held held (begun input held)
 
-pub part_of_out : (reply : Reply) (old new : Held) → AppendsPart old.out new.out reply.out → new.report ≡ old.report → HoldsLess reply old new
+pub part_of_out : (reply : Reply) (old new : Outputs) → AppendsPart (old.held 0) (new.held 0) reply.out → new.held 1 ≡ old.held 1 → HoldsLess reply old new
 part_of_out reply old new (n, within, part) same =
-    let P : Option (List ℕ) → Type 0 = λ x. Appends old.report x [] in
+    let P : Option (List ℕ) → Type 0 = λ x. Appends (old.held 1) x [] in
     let len : length (take n reply.out) ≡ n = length-take n reply.out ∙ omega arith in record {
       part0 = take n reply.out;
       part1 = [];
       in_out = part;
-      in_report = subst P (sym same) (Appends-nil old.report);
+      in_report = subst P (sym same) (Appends-nil (old.held 1));
       part = inl ((drop n reply.out, sym (take-append-drop n reply.out)), refl);
       less = omega arith;
     }
 
-pub part_of_report : (reply : Reply) (old mid new : Held) → Appends old.out mid.out reply.out → new.out ≡ mid.out → mid.report ≡ old.report → AppendsPart mid.report new.report reply.report → HoldsLess reply old new
+pub part_of_report : (reply : Reply) (old mid new : Outputs) → Appends (old.held 0) (mid.held 0) reply.out → new.held 0 ≡ mid.held 0 → mid.held 1 ≡ old.held 1 → AppendsPart (mid.held 1) (new.held 1) reply.report → HoldsLess reply old new
 part_of_report reply old mid new whole kept same (n, within, part) =
-    let P : Option (List ℕ) → Type 0 = λ x. Appends old.out x reply.out in
-    let Q : Option (List ℕ) → Type 0 = λ x. Appends x new.report (take n reply.report) in
+    let P : Option (List ℕ) → Type 0 = λ x. Appends (old.held 0) x reply.out in
+    let Q : Option (List ℕ) → Type 0 = λ x. Appends x (new.held 1) (take n reply.report) in
     let len : length (take n reply.report) ≡ n = length-take n reply.report ∙ omega arith in record {
       part0 = reply.out;
       part1 = take n reply.report;
@@ -399,10 +374,10 @@ part_of_report reply old mid new whole kept same (n, within, part) =
       less = omega arith;
     }
 
-pub all_of_both : (reply : Reply) (old mid new : Held) → Appends old.out mid.out reply.out → new.out ≡ mid.out → mid.report ≡ old.report → Appends mid.report new.report reply.report → Holds reply old new
+pub all_of_both : (reply : Reply) (old mid new : Outputs) → Appends (old.held 0) (mid.held 0) reply.out → new.held 0 ≡ mid.held 0 → mid.held 1 ≡ old.held 1 → Appends (mid.held 1) (new.held 1) reply.report → Holds reply old new
 all_of_both reply old mid new whole kept same lines =
-    let P : Option (List ℕ) → Type 0 = λ x. Appends old.out x reply.out in
-    let Q : Option (List ℕ) → Type 0 = λ x. Appends x new.report reply.report in record {
+    let P : Option (List ℕ) → Type 0 = λ x. Appends (old.held 0) x reply.out in
+    let Q : Option (List ℕ) → Type 0 = λ x. Appends x (new.held 1) reply.report in record {
       in_out = subst P (sym kept) whole;
       in_report = subst Q same lines;
     }

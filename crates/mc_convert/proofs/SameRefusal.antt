@@ -1,44 +1,40 @@
--- Refusals are one where their parts are.
-use Rattle.std.proofs.Common.{arith, ◌≡◌, ℕ, List, [], ◌∷◌, true, nat_eq, refl, ap, subst}
-use Rattle.std.proofs.lemmas.Bool.Decides.{nat_tests}
-use Rattle.std.specs.Cmp.Lexicographic.{pointwise}
-use Rattle.smi_lex.proofs.Sound.{both_true}
-use Rattle.mc_base.specs.declared.ids.AtomId.{AtomId}
+-- The refusals that a record shows: of kind and place there is one.
+use Rattle.std.proofs.Common.{arith, ◌≡◌, ℕ, ◌<◌, ◌≤◌, Bool, false, List, Option, ◌∙◌, sym, subst, inl, inr}
+use Rattle.std.specs.Prelude.{◌↔◌, IsTrue}
+use Rattle.std.proofs.lemmas.Bool.{cases_lt, false≢true}
 use Rattle.mc_base.specs.declared.kind.Kind.{Kind}
 use Rattle.mc_base.specs.declared.refusal.Refusal.{Refusal}
+use Rattle.mc_base.specs.Kinds.{number}
+use Rattle.mc_base.specs.Shown.{HasReason}
+use Rattle.mc_base.proofs.AllKinds.{same_number}
+use Rattle.mc_convert.specs.Answers.{StandsIn, IsBarrierOf, Shows}
 
-abbrev made : Kind → ℕ → List AtomId → ℕ → Refusal
-made kind place barrier odd = record { kind = kind; place = place; barrier = barrier; odd = odd }
+-- a refusal whose kind and place are shown, and whose reason is right
+shows_too : (given : Option (List ℕ)) (shown said : Refusal) → Shows given shown → shown.kind ≡ said.kind → shown.place ≡ said.place
+    → HasReason (IsBarrierOf given) said.kind said.barrier said.odd → Shows given said
+shows_too given shown said shows kind place reason = record {
+  stands = subst (λ (k : Kind). StandsIn given k said.place) kind (subst (λ (p : ℕ). StandsIn given shown.kind p) place shows.stands);
+  least = λ p stands. subst (λ (l : ℕ). l ≤ p) place (shows.least p (subst (λ (k : Kind). StandsIn given k p) (sym kind) stands));
+  first = λ k p less stands. shows.first k p (subst (λ (l : Kind). number k < number l) (sym kind) less) stands;
+  reason = reason;
+}
 
-pub same_parts : (r s : Refusal) → r.kind ≡ s.kind → r.place ≡ s.place → r.odd ≡ s.odd → r.barrier ≡ s.barrier → r ≡ s
-same_parts r s kind place odd barrier = parts r.kind s.kind r.place s.place r.barrier s.barrier r.odd s.odd kind place barrier odd
-  where
-    parts : (k l : Kind) (p q : ℕ) (x y : List AtomId) (m n : ℕ) → k ≡ l → p ≡ q → x ≡ y → m ≡ n
-        → made k p x m ≡ made l q y n
-    parts k l p q x y m n e f g h = cc
+pub same_shown : (given : Option (List ℕ)) (shown said : Refusal) → Shows given shown → Shows given said → (shown.kind ≡ said.kind) × (shown.place ≡ said.place)
+same_shown given shown said f g =
+    let kind : shown.kind ≡ said.kind = elim (cases_lt (number shown.kind) (number said.kind)) [
+      | inl less ↦ absurd (g.first shown.kind shown.place less f.stands)
+      | inr more ↦ elim (cases_lt (number said.kind) (number shown.kind)) [
+        | inl less ↦ absurd (f.first said.kind said.place less g.stands)
+        | inr same ↦ same_number shown.kind said.kind (omega arith)
+      ]
+    ] in
+    let low = f.least said.place (subst (λ (k : Kind). StandsIn given k said.place) (sym kind) g.stands) in
+    let high = g.least shown.place (subst (λ (k : Kind). StandsIn given k shown.place) kind f.stands) in let place : shown.place ≡ said.place = omega arith in (kind, place)
 
--- a test of two lists of atoms, one by one
-abbrev atom : ℕ → AtomId
-atom n = record { 0 = n }
+pub shown_exactly : (given : Option (List ℕ)) (shown said : Refusal) (b : Bool) → Shows given shown → (shown.kind ≡ said.kind) × (shown.place ≡ said.place)
+    → (IsTrue b ↔ HasReason (IsBarrierOf given) said.kind said.barrier said.odd) → IsTrue b ↔ Shows given said
+shown_exactly given shown said b shows same reason =
+    (λ on. shows_too given shown said shows same.0 same.1 (reason.0 on), λ too. reason.1 too.reason)
 
-same_atom : (a b : AtomId) → nat_eq a.0 b.0 ≡ true → a ≡ b
-same_atom a b h = by_number a.0 b.0 (grind (arith, nat_tests))
-  where
-    by_number : (m n : ℕ) → m ≡ n → atom m ≡ atom n
-    by_number m n e = ap atom e
-
-pub atoms_tested : (xs ys : List AtomId) → (pointwise (λ (a b : AtomId). nat_eq a.0 b.0) xs ys ≡ true → xs ≡ ys) × (xs ≡ ys → pointwise (λ (a b : AtomId). nat_eq a.0 b.0) xs ys ≡ true)
-atoms_tested xs ys = (same xs ys, λ e. subst (λ (z : List AtomId). pointwise (λ (a b : AtomId). nat_eq a.0 b.0) xs z ≡ true) e (itself xs))
-  where
-    same : (xs ys : List AtomId) → pointwise (λ (a b : AtomId). nat_eq a.0 b.0) xs ys ≡ true → xs ≡ ys
-    same [] [] h = refl
-    same [] (y ∷ ys) h = cc
-    same (x ∷ xs) [] h = cc
-    same (x ∷ xs) (y ∷ ys) h =
-        let both = both_true (nat_eq x.0 y.0) (pointwise (λ (a b : AtomId). nat_eq a.0 b.0) xs ys) h in
-        let head = same_atom x y both.0 in
-        let tail = same xs ys both.1 in cc
-
-    itself : (xs : List AtomId) → pointwise (λ (a b : AtomId). nat_eq a.0 b.0) xs xs ≡ true
-    itself [] = refl
-    itself (x ∷ xs) = let t : nat_eq x.0 x.0 ≡ true = grind (arith, nat_tests) in rw (t, itself xs) refl
+pub not_shown : (given : Option (List ℕ)) (shown said : Refusal) (b : Bool) → Shows given shown → (IsTrue b ↔ ((shown.kind ≡ said.kind) × (shown.place ≡ said.place))) → b ≡ false → Shows given said → ⊥
+not_shown given shown said b shows same off too = false≢true (sym off ∙ same.1 (same_shown given shown said shows too))

@@ -1,12 +1,13 @@
 -- What a record is answered, and what a run writes (this project's own).
 use Rattle.std.specs.Prelude.{◌≡◌, ℕ, ◌+◌, ◌<◌, ◌⊎◌, List, [], ◌∷◌, ◌++◌, take, flat_map, length, Option, Some, None}
+use Rattle.mc_base.specs.declared.ids.AtomId.{AtomId}
 use Rattle.mc_base.specs.declared.kind.Kind.{Kind}
 use Rattle.mc_base.specs.declared.kind.Kind.TheVariants.{LineTooLong}
 use Rattle.mc_base.specs.declared.refusal.Refusal.{Refusal}
 use Rattle.mc_base.specs.Shown.{IsFirst}
 use Rattle.mc_mol.specs.Molecule.{Molecule}
 use Rattle.mc_mol.specs.Same.{Same}
-use Rattle.mc_report.specs.Report.{ok_line, refused_line}
+use Rattle.mc_report.specs.Report.{line_ends, ok_line, refused_line}
 use Rattle.smi_graph.specs.Skeletons.{IsNoBarrier}
 use Rattle.smi_mean.specs.Lines.{text_of, name_of}
 use Rattle.smi_mean.specs.Rules.{StandsAt, SmilesStands}
@@ -47,9 +48,14 @@ pub record IsWritten (k : ℕ) (bytes : List ℕ) (reply : Reply) : Type 0 where
   pub same : Same input output (written_order input)
   pub report : reply.report ≡ ok_line k (written_order input) 0 0 0
 
--- a record shows a refusal
+-- the barriers of a record, each with its number of odd parts: none, since no atom of a record that is read needs a
+-- placement yet
+abbrev pub IsBarrierOf : Option (List ℕ) → List AtomId → ℕ → Type 0
+IsBarrierOf text barrier odd = IsNoBarrier barrier odd
+
+-- A record shows a refusal: of kind and place there is one, of barriers there may be several.
 abbrev pub Shows : Option (List ℕ) → Refusal → Type 0
-Shows text refusal = IsFirst (StandsIn text) IsNoBarrier refusal
+Shows text refusal = IsFirst (StandsIn text) (IsBarrierOf text) refusal
 
 -- Record k is refused, for a cause that it shows.
 pub record IsRefusedFor (k : ℕ) (text : Option (List ℕ)) (reply : Reply) : Type 0 where
@@ -104,7 +110,6 @@ pub record StoppedIn (texts : List (Option (List ℕ))) (grown0 grown1 : List �
 abbrev pub Stopped : List (Option (List ℕ)) → List ℕ → List ℕ → Type 0
 Stopped texts grown0 grown1 = ((grown0 ≡ []) × (grown1 ≡ [])) ⊎ StoppedIn texts grown0 grown1
 
--- The outputs have grown by less than all of the answers.
-abbrev pub IsLessThanWhole : List (Option (List ℕ)) → List ℕ → List ℕ → Type 0
-IsLessThanWhole texts grown0 grown1 =
-    (replies : List Reply) → Answers 1 texts replies → length grown0 + length grown1 < length (outs replies) + length (reports replies)
+-- A record has no line in the report: fewer lines have ended there than there are records.
+abbrev pub LacksLine : List (Option (List ℕ)) → List ℕ → List ℕ → Type 0
+LacksLine texts grown0 grown1 = line_ends grown1 < length texts

@@ -1,15 +1,13 @@
 -- What a check leaves at the outputs, and how it ends (this project's own).
-use Rattle.std.specs.Prelude.{◌≡◌, ◌↔◌, ⊤, ℕ, ◌+◌, ◌<◌, ◌≤◌, List, ◌++◌, Bool, true, Option, Some, Result, Ok, Err, IfSome, IsTrue, length}
+use Rattle.std.specs.Prelude.{◌≡◌, ◌↔◌, ⊤, ℕ, ◌<◌, ◌≤◌, List, ◌++◌, Bool, true, Option, Some, Result, Ok, Err, IfSome, IsTrue, length}
 use Rattle.std.specs.List.{list_all}
 use Rattle.std.specs.Io.KnownBytes.{Appends}
 use Rattle.mc_io.specs.Causes.{Rose}
-use Rattle.mc_io.specs.Outside.{AppendsPart}
+use Rattle.mc_io.specs.Outside.{AppendsPart, Input, Outputs}
 use Rattle.mc_convert.specs.declared.finding.Finding.{Finding}
 use Rattle.mc_convert.specs.declared.check_readers.CheckReaders.{CheckReaders}
 use Rattle.mc_convert.specs.declared.status.Halt.{Halt}
 use Rattle.mc_convert.specs.declared.status.Halt.TheVariants.{ReadFault, InputLimit, WriteFault, NoMemory}
-use Rattle.mc_convert.specs.Readers.{Told}
-use Rattle.mc_convert.specs.Runs.{Held}
 use Rattle.mc_convert.specs.Findings.{is_true, verdict_line}
 use Rattle.mc_convert.specs.Checks.{Finds, at_first, extra_line, extra_text, is_extra, verdict_lines, IsCheckText, IsCheckPart, IsAllTrue}
 use Rattle.mc_convert.specs.Records.{records}
@@ -54,17 +52,19 @@ pub record AllIsChecked (originals converted report old new : Option (List ℕ))
   pub new_is : new ≡ Some (before ++ text)
   pub whole : IsCheckText o c r text
 
--- more than the limit was taken of one of the three inputs
-pub record PastLimit (limit : ℕ) (before after : ℕ → ℕ) : Type 0 where
-  pub input : ℕ
-  pub is_input : input < 3
-  pub past : before input + limit < after input
+-- the same of the inputs of a check and of output 0
 
--- reads of one of the three inputs have failed
-pub record FaultsRose (before after : ℕ → ℕ) : Type 0 where
-  pub input : ℕ
-  pub is_input : input < 3
-  pub rose : Rose (before input) (after input)
+abbrev pub IfAllKnown : (ℕ → Input) → (List ℕ → List ℕ → List ℕ → Type 0) → Type 0
+IfAllKnown inputs P = IfKnown (inputs 0).left (inputs 1).left (inputs 2).left P
+
+abbrev pub WritesText : (ℕ → Input) → Outputs → Outputs → Type 0
+WritesText inputs old new = ChecksAll (inputs 0).left (inputs 1).left (inputs 2).left (old.held 0) (new.held 0)
+
+abbrev pub WritesFront : (ℕ → Input) → Outputs → Outputs → Type 0
+WritesFront inputs old new = ChecksSome (inputs 0).left (inputs 1).left (inputs 2).left (old.held 0) (new.held 0)
+
+abbrev pub HoldsText : (ℕ → Input) → Outputs → Outputs → Type 0
+HoldsText inputs old new = AllIsChecked (inputs 0).left (inputs 1).left (inputs 2).left (old.held 0) (new.held 0)
 
 -- ---- one original
 
@@ -82,40 +82,40 @@ pub record PutSome (old new : Option (List ℕ)) (lines rest : List ℕ) : Type 
   pub split : written ++ rest ≡ lines
 
 -- a stop has its cause
-abbrev pub CheckHalts : ℕ → Halt → CheckReaders → (ℕ → Told) → (ℕ → Told) → Held → Held → Type 0
+abbrev pub CheckHalts : ℕ → Halt → CheckReaders → (ℕ → Input) → (ℕ → Input) → Outputs → Outputs → Type 0
 CheckHalts limit ReadFault readers before after old new = AreWithin limit readers × ReadFailed before after
 CheckHalts limit InputLimit readers before after old new = IsPast limit readers × NotEnded after
 CheckHalts limit NoMemory readers before after old new = AreWithin limit readers
 CheckHalts limit WriteFault readers before after old new = AreWithin limit readers × Rose old.faults new.faults
 
 -- what an output is like behind any write
-pub record Written (old new : Held) : Type 0 where
+pub record Written (old new : Outputs) : Type 0 where
   pub later : old.faults ≤ new.faults
-  pub report : new.report ≡ old.report
+  pub report : new.held 1 ≡ old.held 1
 
 -- ---- the whole
 
-pub record CheckedAll (all_true : Bool) (before after : ℕ → Told) (old new : Held) : Type 0 where
+pub record CheckedAll (all_true : Bool) (before after : ℕ → Input) (old new : Outputs) : Type 0 where
   pub ended : (i : ℕ) → i < 3 → IsTrue (after i).ended
-  pub all : ChecksAll (before 0).left (before 1).left (before 2).left old.out new.out
+  pub all : ChecksAll (before 0).left (before 1).left (before 2).left (old.held 0) (new.held 0)
   pub true_is : IfKnown (before 0).left (before 1).left (before 2).left (λ o c r. IsTrue all_true ↔ IsAllTrue o c r)
 
 -- the cause of a stop
-abbrev pub CheckStopped : Halt → (ℕ → Told) → (ℕ → Told) → Held → Held → Type 0
+abbrev pub CheckStopped : Halt → (ℕ → Input) → (ℕ → Input) → Outputs → Outputs → Type 0
 CheckStopped ReadFault before after old new = ReadFailed before after
 CheckStopped InputLimit before after old new = NotEnded after
 CheckStopped NoMemory before after old new = ⊤
-CheckStopped WriteFault before after old new = Rose old.faults new.faults × ChecksLess (before 0).left (before 1).left (before 2).left old.out new.out
+CheckStopped WriteFault before after old new = Rose old.faults new.faults × ChecksLess (before 0).left (before 1).left (before 2).left (old.held 0) (new.held 0)
 
 -- How a check ended.
-abbrev pub CheckRan : Result Bool Halt → (ℕ → Told) → (ℕ → Told) → Held → Held → Type 0
+abbrev pub CheckRan : Result Bool Halt → (ℕ → Input) → (ℕ → Input) → Outputs → Outputs → Type 0
 CheckRan (Ok all_true) before after old new = CheckedAll all_true before after old new
-CheckRan (Err halt) before after old new = ChecksSome (before 0).left (before 1).left (before 2).left old.out new.out × CheckStopped halt before after old new
+CheckRan (Err halt) before after old new = ChecksSome (before 0).left (before 1).left (before 2).left (old.held 0) (new.held 0) × CheckStopped halt before after old new
 
 -- ---- all originals
 
 -- all originals are checked, and their lines are written
-pub record AllFound (all_true : Bool) (o c r : List ℕ) (converted report : Option (List ℕ)) (old new : Held) : Type 0 where
+pub record AllFound (all_true : Bool) (o c r : List ℕ) (converted report : Option (List ℕ)) (old new : Outputs) : Type 0 where
   pub c_left : List ℕ
   pub r_left : List ℕ
   pub converted_are : converted ≡ Some c_left
@@ -123,31 +123,31 @@ pub record AllFound (all_true : Bool) (o c r : List ℕ) (converted report : Opt
   pub findings : List Finding
   pub finds : Finds 1 (records o) (at_first c r) findings (at_first c_left r_left)
   pub true_is : list_all is_true findings ≡ all_true
-  pub written : Appends old.out new.out (verdict_lines 1 findings)
+  pub written : Appends (old.held 0) (new.held 0) (verdict_lines 1 findings)
 
-abbrev pub FoundAll : Bool → Option (List ℕ) → Option (List ℕ) → Option (List ℕ) → Option (List ℕ) → Option (List ℕ) → Held → Held → Type 0
+abbrev pub FoundAll : Bool → Option (List ℕ) → Option (List ℕ) → Option (List ℕ) → Option (List ℕ) → Option (List ℕ) → Outputs → Outputs → Type 0
 FoundAll all_true o c r converted report old new = IfKnown o c r (λ x y z. AllFound all_true x y z converted report old new)
 
 -- a failed write leaves less than the whole text
-abbrev pub LessAt : Halt → Option (List ℕ) → Option (List ℕ) → Option (List ℕ) → Held → Held → Type 0
-LessAt WriteFault o c r old new = ChecksLess o c r old.out new.out
+abbrev pub LessAt : Halt → Option (List ℕ) → Option (List ℕ) → Option (List ℕ) → Outputs → Outputs → Type 0
+LessAt WriteFault o c r old new = ChecksLess o c r (old.held 0) (new.held 0)
 LessAt halt o c r old new = ⊤
 
 -- ---- what is left behind the originals
 
 -- it is said whether something is extra, and its line is written
-pub record RestOf (converted report : List ℕ) (old new : Held) (extra : Bool) : Type 0 where
+pub record RestOf (converted report : List ℕ) (old new : Outputs) (extra : Bool) : Type 0 where
   pub extra_is : extra ≡ is_extra (at_first converted report)
-  pub written : Appends old.out new.out (extra_text extra)
+  pub written : Appends (old.held 0) (new.held 0) (extra_text extra)
 
-abbrev pub RestChecked : Option (List ℕ) → Option (List ℕ) → Held → Held → Bool → Type 0
+abbrev pub RestChecked : Option (List ℕ) → Option (List ℕ) → Outputs → Outputs → Bool → Type 0
 RestChecked converted report old new extra = IfSome converted (λ c. IfSome report (λ r. RestOf c r old new extra))
 
 -- a part of the line is written, and not all
-pub record RestCut (converted report : List ℕ) (old new : Held) : Type 0 where
+pub record RestCut (converted report : List ℕ) (old new : Outputs) : Type 0 where
   pub extra : is_extra (at_first converted report) ≡ true
-  pub written : AppendsPart old.out new.out extra_line
+  pub written : AppendsPart (old.held 0) (new.held 0) extra_line
 
-abbrev pub RestStopped : Halt → Option (List ℕ) → Option (List ℕ) → Held → Held → Type 0
+abbrev pub RestStopped : Halt → Option (List ℕ) → Option (List ℕ) → Outputs → Outputs → Type 0
 RestStopped WriteFault converted report old new = IfSome converted (λ c. IfSome report (λ r. RestCut c r old new))
-RestStopped halt converted report old new = new.out ≡ old.out
+RestStopped halt converted report old new = new.held 0 ≡ old.held 0

@@ -3,13 +3,13 @@ use Rattle.std.specs.Prelude.{◌≡◌, ◌⊎◌, ⊤, ℕ, ◌<◌, ◌≤◌
 use Rattle.mc_report.specs.declared.report_line.ReportLine.{ReportLine}
 use Rattle.mc_io.specs.Causes.{Rose}
 use Rattle.mc_io.specs.Lines.{lines_of}
-use Rattle.mc_io.specs.LineReader.{LineReader, MayGoOn}
+use Rattle.mc_io.specs.LineReader.{LineReader, MayGoOn, Reading, fresh}
+use Rattle.mc_io.specs.Outside.{Input}
 use Rattle.mc_convert.specs.declared.check_readers.CheckReaders.{CheckReaders}
 use Rattle.mc_convert.specs.declared.finding.Finding.{Finding}
 use Rattle.mc_convert.specs.declared.record_read.RecordRead.{RecordRead}
 use Rattle.mc_convert.specs.declared.status.Halt.{Halt}
 use Rattle.mc_convert.specs.declared.status.Halt.TheVariants.{ReadFault, InputLimit, WriteFault, NoMemory}
-use Rattle.mc_convert.specs.Readers.{Told, Reading, fresh}
 use Rattle.mc_convert.specs.Findings.{AreReadAs, FindsSaid}
 use Rattle.mc_convert.specs.Checks.{first, at_first, FindsOne}
 
@@ -35,7 +35,7 @@ pub record AreWithin (limit : ℕ) (readers : CheckReaders) : Type 0 where
   pub report : readers.report.taken ≤ limit
 
 -- any number of lines were taken of each of the three inputs, and of no other
-pub record Advance (old new : CheckReaders) (before after : ℕ → Told) : Type 0 where
+pub record Advance (old new : CheckReaders) (before after : ℕ → Input) : Type 0 where
   pub originals : Reading old.originals new.originals (before 0) (after 0)
   pub converted : Reading old.converted new.converted (before 1) (after 1)
   pub report : Reading old.report new.report (before 2) (after 2)
@@ -46,20 +46,20 @@ abbrev pub IsPast : ℕ → CheckReaders → Type 0
 IsPast limit readers = (limit < readers.originals.taken) ⊎ ((limit < readers.converted.taken) ⊎ (limit < readers.report.taken))
 
 -- a failed read of one of the inputs
-pub record ReadFailed (before after : ℕ → Told) : Type 0 where
+pub record ReadFailed (before after : ℕ → Input) : Type 0 where
   pub input : ℕ
   pub is_input : input < 3
   pub rose : Rose (before input).faults (after input).faults
   pub not_ended : (after input).ended ≡ false
 
 -- one of the inputs wasn't read to its end
-pub record NotEnded (after : ℕ → Told) : Type 0 where
+pub record NotEnded (after : ℕ → Input) : Type 0 where
   pub input : ℕ
   pub is_input : input < 3
   pub not_ended : (after input).ended ≡ false
 
 -- a stop of the reading has its cause
-abbrev pub ReadHalts : ℕ → Halt → CheckReaders → (ℕ → Told) → (ℕ → Told) → Type 0
+abbrev pub ReadHalts : ℕ → Halt → CheckReaders → (ℕ → Input) → (ℕ → Input) → Type 0
 ReadHalts limit ReadFault new before after = AreWithin limit new × ReadFailed before after
 ReadHalts limit InputLimit new before after = IsPast limit new × NotEnded after
 ReadHalts limit NoMemory new before after = AreWithin limit new

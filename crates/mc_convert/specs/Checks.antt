@@ -58,6 +58,10 @@ pub record IsCheckText (originals converted report text : List ℕ) : Type 0 whe
   pub finds : Finds 1 (records originals) (at_first converted report) findings after
   pub written : text ≡ verdict_lines 1 findings ++ extra_text (is_extra after)
 
+-- a check has one text
+abbrev pub OneText : List ℕ → List ℕ → List ℕ → Type 0
+OneText originals converted report = (text other : List ℕ) → IsCheckText originals converted report text → IsCheckText originals converted report other → text ≡ other
+
 -- each verdict line is 'true', and nothing is extra
 pub record IsAllTrue (originals converted report : List ℕ) : Type 0 where
   pub findings : List Finding

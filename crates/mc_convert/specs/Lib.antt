@@ -10,3 +10,4 @@ pub mod CheckSteps
 pub mod CheckRuns
 pub mod LeftOver
 pub mod Words
+pub mod Promises

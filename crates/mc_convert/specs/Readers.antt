@@ -1,36 +1,17 @@
 -- What is true from one time to a later one while an input is read line by line (this project's own).
-use Rattle.std.specs.Prelude.{◌≡◌, ℕ, ◌+◌, ◌-◌, ◌<◌, ◌≤◌, ◌^◌, Bool, false, List, [], ◌∷◌, ◌++◌, Option, Some, None, Result, Ok, Err, IsTrue, ⊤}
+use Rattle.std.specs.Prelude.{◌≡◌, ℕ, ◌<◌, ◌≤◌, false, List, [], ◌∷◌, ◌++◌, Option, Some, None, Result, Ok, Err, IsTrue, ⊤}
 use Rattle.std.specs.Io.KnownBytes.{IsAtEnd}
 use Rattle.mc_io.specs.declared.whole.ReadStop.{ReadStop}
 use Rattle.mc_io.specs.declared.whole.ReadStop.TheVariants.{ReadFault, InputLimit, NoMemory}
 use Rattle.mc_io.specs.Causes.{Rose}
 use Rattle.mc_io.specs.LineReader.{LineReader, TakesLines}
+use Rattle.mc_io.specs.Outside.{Input}
 use Rattle.mc_convert.specs.declared.records.NextLine.{NextLine}
 use Rattle.mc_convert.specs.declared.records.NextLine.TheVariants.{Line, TooLong, End}
 use Rattle.mc_convert.specs.Records.{records}
 
--- what a source tells of one input: what is left of it, how often reads of it have failed, how many bytes of it have
--- been taken, and whether the last read gave its end
-pub record Told : Type 0 where
-  pub left : Option (List ℕ)
-  pub faults : ℕ
-  pub taken : ℕ
-  pub ended : Bool
-
-abbrev pub told : (ℕ → Option (List ℕ)) → (ℕ → ℕ) → (ℕ → ℕ) → (ℕ → Bool) → ℕ → Told
-told left faults taken ended i = record { left = left i; faults = faults i; taken = taken i; ended = ended i }
-
--- Any number of lines were taken: what the reader counts is what was taken of its input, and faults never fall.
-pub record Reading (old new : LineReader) (before after : Told) : Type 0 where
-  pub input : new.input ≡ old.input
-  pub more : old.taken ≤ new.taken
-  pub few : old.taken < 2 ^ 65 → new.taken < 2 ^ 65
-  pub counted : before.taken + (new.taken - old.taken) < 2 ^ 128 → after.taken ≡ before.taken + (new.taken - old.taken)
-  pub at_end : (IsTrue old.ended → IsTrue before.ended) → IsTrue new.ended → IsTrue after.ended
-  pub later : before.faults ≤ after.faults
-
 -- How a call ended: within the limit but where it says so; and a stop has its cause.
-abbrev pub HasEnded : ℕ → Result NextLine ReadStop → LineReader → Told → Told → Type 0
+abbrev pub HasEnded : ℕ → Result NextLine ReadStop → LineReader → Input → Input → Type 0
 HasEnded limit (Ok End) new before after = (new.taken ≤ limit) × IsTrue new.ended
 HasEnded limit (Ok _) new before after = new.taken ≤ limit
 HasEnded limit (Err ReadFault) new before after = (new.taken ≤ limit) × Rose before.faults after.faults × (after.ended ≡ false)
@@ -61,10 +42,6 @@ GivesLine (Err stop) all rest text = ⊤
 abbrev pub found : NextLine → List ℕ → Option (List ℕ)
 found Line text = Some text
 found _ text = None
-
--- a reader that has read nothing yet
-abbrev pub fresh : ℕ → LineReader
-fresh input = record { input = input; held = []; taken = 0; ended = false; passed = 0; text = []; answer = None }
 
 -- the same of records
 abbrev pub GivesRecord : Result NextLine ReadStop → Option (List ℕ) → Option (List ℕ) → List ℕ → Type 0

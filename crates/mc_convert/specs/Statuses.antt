@@ -1,5 +1,5 @@
 -- The numbers of the statuses (this project's own).
-use Rattle.std.specs.Prelude.{ℕ}
+use Rattle.std.specs.Prelude.{ℕ, Bool, true, false}
 use Rattle.mc_io.specs.declared.whole.ReadStop.{ReadStop}
 use Rattle.mc_io.specs.declared.whole.ReadStop.TheVariants.{ReadFault as ReadFailed, InputLimit as LimitReached, NoMemory as MemoryOut}
 use Rattle.mc_convert.specs.declared.status.Halt.{Halt}
@@ -28,3 +28,8 @@ status_of ReadHalt = ReadFault
 status_of LimitHalt = InputLimit
 status_of WriteHalt = WriteFault
 status_of MemoryHalt = Memory
+
+-- how a check ended whose text is written
+abbrev pub ended_status : Bool → Status
+ended_status true = Done
+ended_status false = SomeRefused

@@ -1,14 +1,15 @@
-ghost use Rattle.std.specs.Prelude.{◌≡◌, ◌≢◌, ◌⊎◌, ◌↔◌, ◌<◌, ◌≤◌, ◌^◌, ◌&&◌, not, [], ℕ, List, Option, Err, IfOk, IfErr, OnOk, OnErr, IsTrue};
+ghost use Rattle.std.specs.Prelude.{◌≡◌, ◌<◌, ◌≤◌, ◌&&◌, not, [], ℕ, List, Option, Err, IfOk, IfErr, OnOk, OnErr, IsTrue};
 ghost use Rattle.mc_io.specs.LineReader.{ahead};
-ghost use Rattle.mc_convert.specs.Readers.{told};
 ghost use Rattle.mc_convert.specs.Findings.{IsReadAs};
 ghost use Rattle.mc_convert.specs.CheckSteps.{Advance, MayRead, ReadHalts, FindsNext, fresh_readers};
-ghost use Rattle.mc_convert.specs.CheckRuns.{AllIsChecked, ChecksAll, FaultsRose, IfKnown, OneChecked, PutSome, CheckHalts, ChecksSome, CheckRan, FoundAll, LessAt, PastLimit, RestChecked, RestStopped, Written};
-ghost use Rattle.mc_convert.specs.Checks.{extra_line, extra_text, IsAllTrue};
-ghost use Rattle.mc_io.specs.Causes.{HasCause, Rose};
+ghost use Rattle.mc_convert.specs.CheckRuns.{OneChecked, PutSome, CheckHalts, ChecksSome, CheckRan, FoundAll, LessAt, RestChecked, RestStopped, Written};
+ghost use Rattle.mc_convert.specs.Checks.{extra_line, extra_text};
+ghost use Rattle.mc_convert.specs.Promises.{Checks};
+ghost use Rattle.mc_convert.specs.Statuses.{ended_status};
+ghost use Rattle.mc_io.specs.Causes.{HasCause};
 ghost use Rattle.mc_io.specs.Outside.{AppendsPart};
 ghost use Rattle.std.specs.Io.KnownBytes.{Appends};
-ghost use Rattle.mc_convert.specs.Runs.{IsStop, held_by};
+ghost use Rattle.mc_convert.specs.Runs.{Taken};
 
 use crate::check_readers::CheckReaders;
 use crate::finding::{Finding, map_finding, refusal_finding};
@@ -30,17 +31,13 @@ fn find_next<S: Source>(
 ) -> Result<Finding, Halt>
     requires { MayRead S.LIMIT readers.old }
     ensures finds { (given : Option (List ℕ)) → IsReadAs given original → IfOk result (FindsNext k given
-        (ahead readers.old.converted (S.left source.old 1)) (ahead readers.new.converted (S.left source.new 1))
-        (ahead readers.old.report (S.left source.old 2)) (ahead readers.new.report (S.left source.new 2))) }
-    ensures advance { Advance readers.old readers.new
-        (told (S.left source.old) (S.faults source.old) (S.taken source.old) (S.ended source.old))
-        (told (S.left source.new) (S.faults source.new) (S.taken source.new) (S.ended source.new)) }
+        (ahead readers.old.converted (S.inputs source.old 1).left) (ahead readers.new.converted (S.inputs source.new 1).left)
+        (ahead readers.old.report (S.inputs source.old 2).left) (ahead readers.new.report (S.inputs source.new 2).left)) }
+    ensures advance { Advance readers.old readers.new (S.inputs source.old) (S.inputs source.new) }
     ensures may_read { IfOk result (λ _. MayRead S.LIMIT readers.new) }
-    ensures halts { IfErr result (λ halt. ReadHalts S.LIMIT halt readers.new
-        (told (S.left source.old) (S.faults source.old) (S.taken source.old) (S.ended source.old))
-        (told (S.left source.new) (S.faults source.new) (S.taken source.new) (S.ended source.new))) }
+    ensures halts { IfErr result (λ halt. ReadHalts S.LIMIT halt readers.new (S.inputs source.old) (S.inputs source.new)) }
     ensures kept { readers.new.originals ≡ readers.old.originals }
-    ensures left { S.left source.new 0 ≡ S.left source.old 0 }
+    ensures left { (S.inputs source.new 0).left ≡ (S.inputs source.old 0).left }
 {
     match readers.read_said(alloc, k, source) {
         Ok(Some(ReportLine::Ok { map, .. })) => match readers.read_converted(alloc, source) {
@@ -68,26 +65,17 @@ fn check_next<S: Source>(
 ) -> Result<bool, Halt>
     requires { MayRead S.LIMIT readers.old }
     ensures checked { (given : Option (List ℕ)) → IsReadAs given original → IfOk result (OneChecked k given
-        (ahead readers.old.converted (S.left source.old 1)) (ahead readers.new.converted (S.left source.new 1))
-        (ahead readers.old.report (S.left source.old 2)) (ahead readers.new.report (S.left source.new 2)) lines.old lines.new) }
-    ensures halts { IfErr result (λ halt. ReadHalts S.LIMIT halt readers.new
-        (told (S.left source.old) (S.faults source.old) (S.taken source.old) (S.ended source.old))
-        (told (S.left source.new) (S.faults source.new) (S.taken source.new) (S.ended source.new))) }
-    ensures advance { Advance readers.old readers.new
-        (told (S.left source.old) (S.faults source.old) (S.taken source.old) (S.ended source.old))
-        (told (S.left source.new) (S.faults source.new) (S.taken source.new) (S.ended source.new)) }
+        (ahead readers.old.converted (S.inputs source.old 1).left) (ahead readers.new.converted (S.inputs source.new 1).left)
+        (ahead readers.old.report (S.inputs source.old 2).left) (ahead readers.new.report (S.inputs source.new 2).left) lines.old lines.new) }
+    ensures halts { IfErr result (λ halt. ReadHalts S.LIMIT halt readers.new (S.inputs source.old) (S.inputs source.new)) }
+    ensures advance { Advance readers.old readers.new (S.inputs source.old) (S.inputs source.new) }
     ensures may_read { IfOk result (λ _. MayRead S.LIMIT readers.new) }
     ensures kept { readers.new.originals ≡ readers.old.originals }
-    ensures left { S.left source.new 0 ≡ S.left source.old 0 }
+    ensures left { (S.inputs source.new 0).left ≡ (S.inputs source.old 0).left }
 {
-    let finding = match find_next(readers, alloc, k, original, source) {
-        Ok(finding) => finding,
-        Err(halt) => return Err(halt),
-    };
-    match finding.put_line(lines, k) {
-        Ok(()) => Ok(finding.is_true()),
-        Err(_) => Err(Halt::NoMemory),
-    }
+    let finding = find_next(readers, alloc, k, original, source)?;
+    finding.put_line(lines, k)?;
+    Ok(finding.is_true())
 }
 
 /// From how many bytes on verdict lines are written: a write costs more than a verdict.
@@ -95,27 +83,23 @@ const PIECE: usize = 4096;
 
 /// Writes the lines that are still to be written.
 fn put_lines<K: Sink>(sink: &mut K, lines: &mut Text) -> Result<(), Failed>
-    ensures put { OnOk result (PutSome (K.held sink.old 0) (K.held sink.new 0) lines.old lines.new) }
+    ensures put { OnOk result (PutSome ((K.outputs sink.old).held 0) ((K.outputs sink.new).held 0) lines.old lines.new) }
     ensures all { OnOk result (lines.new ≡ []) }
-    ensures part { OnErr result (AppendsPart (K.held sink.old 0) (K.held sink.new 0) lines.old) }
-    ensures cause { HasCause (K.faults sink.old) (K.faults sink.new) result }
-    ensures kept { K.held sink.new 1 ≡ K.held sink.old 1 }
+    ensures part { OnErr result (AppendsPart ((K.outputs sink.old).held 0) ((K.outputs sink.new).held 0) lines.old) }
+    ensures cause { HasCause (K.outputs sink.old).faults (K.outputs sink.new).faults result }
+    ensures kept { (K.outputs sink.new).held 1 ≡ (K.outputs sink.old).held 1 }
 {
-    match put_all(sink, 0, lines.as_slice()) {
-        Ok(()) => {
-            lines.truncate(0);
-            Ok(())
-        }
-        Err(failed) => Err(failed),
-    }
+    put_all(sink, 0, lines.as_slice())?;
+    lines.truncate(0);
+    Ok(())
 }
 
 /// The same where they are enough for a piece.
 fn put_piece<K: Sink>(sink: &mut K, lines: &mut Text) -> Result<(), Failed>
-    ensures put { OnOk result (PutSome (K.held sink.old 0) (K.held sink.new 0) lines.old lines.new) }
-    ensures part { OnErr result (AppendsPart (K.held sink.old 0) (K.held sink.new 0) lines.old) }
-    ensures cause { HasCause (K.faults sink.old) (K.faults sink.new) result }
-    ensures kept { K.held sink.new 1 ≡ K.held sink.old 1 }
+    ensures put { OnOk result (PutSome ((K.outputs sink.old).held 0) ((K.outputs sink.new).held 0) lines.old lines.new) }
+    ensures part { OnErr result (AppendsPart ((K.outputs sink.old).held 0) ((K.outputs sink.new).held 0) lines.old) }
+    ensures cause { HasCause (K.outputs sink.old).faults (K.outputs sink.new).faults result }
+    ensures kept { (K.outputs sink.new).held 1 ≡ (K.outputs sink.old).held 1 }
 {
     if lines.len() < PIECE {
         return Ok(());
@@ -132,21 +116,14 @@ fn check_originals<S: Source, K: Sink>(
     sink: &mut K,
 ) -> Result<bool, Halt>
     requires { readers.old ≡ fresh_readers }
-    ensures found { IfOk result (λ all_true. FoundAll all_true (S.left source.old 0) (S.left source.old 1) (S.left source.old 2)
-        (ahead readers.new.converted (S.left source.new 1)) (ahead readers.new.report (S.left source.new 2))
-        (held_by (K.held sink.old) (K.faults sink.old)) (held_by (K.held sink.new) (K.faults sink.new))) }
+    ensures found { IfOk result (λ all_true. FoundAll all_true (S.inputs source.old 0).left (S.inputs source.old 1).left (S.inputs source.old 2).left
+        (ahead readers.new.converted (S.inputs source.new 1).left) (ahead readers.new.report (S.inputs source.new 2).left) (K.outputs sink.old) (K.outputs sink.new)) }
     ensures ended { IfOk result (λ _. IsTrue readers.new.originals.ended) }
-    ensures some { IfErr result (λ halt. ChecksSome (S.left source.old 0) (S.left source.old 1) (S.left source.old 2) (K.held sink.old 0) (K.held sink.new 0)) }
-    ensures less { IfErr result (λ halt. LessAt halt (S.left source.old 0) (S.left source.old 1) (S.left source.old 2)
-        (held_by (K.held sink.old) (K.faults sink.old)) (held_by (K.held sink.new) (K.faults sink.new))) }
-    ensures halts { IfErr result (λ halt. CheckHalts S.LIMIT halt readers.new
-        (told (S.left source.old) (S.faults source.old) (S.taken source.old) (S.ended source.old))
-        (told (S.left source.new) (S.faults source.new) (S.taken source.new) (S.ended source.new))
-        (held_by (K.held sink.old) (K.faults sink.old)) (held_by (K.held sink.new) (K.faults sink.new))) }
-    ensures written { Written (held_by (K.held sink.old) (K.faults sink.old)) (held_by (K.held sink.new) (K.faults sink.new)) }
-    ensures advance { Advance readers.old readers.new
-        (told (S.left source.old) (S.faults source.old) (S.taken source.old) (S.ended source.old))
-        (told (S.left source.new) (S.faults source.new) (S.taken source.new) (S.ended source.new)) }
+    ensures some { IfErr result (λ halt. ChecksSome (S.inputs source.old 0).left (S.inputs source.old 1).left (S.inputs source.old 2).left ((K.outputs sink.old).held 0) ((K.outputs sink.new).held 0)) }
+    ensures less { IfErr result (λ halt. LessAt halt (S.inputs source.old 0).left (S.inputs source.old 1).left (S.inputs source.old 2).left (K.outputs sink.old) (K.outputs sink.new)) }
+    ensures halts { IfErr result (λ halt. CheckHalts S.LIMIT halt readers.new (S.inputs source.old) (S.inputs source.new) (K.outputs sink.old) (K.outputs sink.new)) }
+    ensures written { Written (K.outputs sink.old) (K.outputs sink.new) }
+    ensures advance { Advance readers.old readers.new (S.inputs source.old) (S.inputs source.new) }
     ensures may_read { IfOk result (λ _. MayRead S.LIMIT readers.new) }
 {
     let mut all_true = true;
@@ -181,10 +158,10 @@ fn both(first: bool, second: bool) -> bool
 
 /// Writes the last line, where something is extra.
 fn put_extra<K: Sink>(extra: bool, sink: &mut K) -> Result<(), Failed>
-    ensures written { OnOk result (Appends (K.held sink.old 0) (K.held sink.new 0) (extra_text extra)) }
-    ensures part { OnErr result (IsTrue extra × AppendsPart (K.held sink.old 0) (K.held sink.new 0) extra_line) }
-    ensures cause { HasCause (K.faults sink.old) (K.faults sink.new) result }
-    ensures kept { K.held sink.new 1 ≡ K.held sink.old 1 }
+    ensures written { OnOk result (Appends ((K.outputs sink.old).held 0) ((K.outputs sink.new).held 0) (extra_text extra)) }
+    ensures part { OnErr result (IsTrue extra × AppendsPart ((K.outputs sink.old).held 0) ((K.outputs sink.new).held 0) extra_line) }
+    ensures cause { HasCause (K.outputs sink.old).faults (K.outputs sink.new).faults result }
+    ensures kept { (K.outputs sink.new).held 1 ≡ (K.outputs sink.old).held 1 }
 {
     if extra {
         return put_all(sink, 0, b"end false extra\n");
@@ -201,35 +178,20 @@ fn check_rest<S: Source, K: Sink>(
     sink: &mut K,
 ) -> Result<bool, Halt>
     requires { MayRead S.LIMIT readers.old }
-    ensures checked { IfOk result (RestChecked (ahead readers.old.converted (S.left source.old 1)) (ahead readers.old.report (S.left source.old 2))
-        (held_by (K.held sink.old) (K.faults sink.old)) (held_by (K.held sink.new) (K.faults sink.new))) }
-    ensures stopped { IfErr result (λ halt. RestStopped halt (ahead readers.old.converted (S.left source.old 1)) (ahead readers.old.report (S.left source.old 2))
-        (held_by (K.held sink.old) (K.faults sink.old)) (held_by (K.held sink.new) (K.faults sink.new))) }
+    ensures checked { IfOk result (RestChecked (ahead readers.old.converted (S.inputs source.old 1).left) (ahead readers.old.report (S.inputs source.old 2).left) (K.outputs sink.old) (K.outputs sink.new)) }
+    ensures stopped { IfErr result (λ halt. RestStopped halt (ahead readers.old.converted (S.inputs source.old 1).left) (ahead readers.old.report (S.inputs source.old 2).left) (K.outputs sink.old) (K.outputs sink.new)) }
     ensures ended { IfOk result (λ _. IsTrue readers.new.converted.ended × IsTrue readers.new.report.ended) }
-    ensures halts { IfErr result (λ halt. CheckHalts S.LIMIT halt readers.new
-        (told (S.left source.old) (S.faults source.old) (S.taken source.old) (S.ended source.old))
-        (told (S.left source.new) (S.faults source.new) (S.taken source.new) (S.ended source.new))
-        (held_by (K.held sink.old) (K.faults sink.old)) (held_by (K.held sink.new) (K.faults sink.new))) }
-    ensures written { Written (held_by (K.held sink.old) (K.faults sink.old)) (held_by (K.held sink.new) (K.faults sink.new)) }
-    ensures advance { Advance readers.old readers.new
-        (told (S.left source.old) (S.faults source.old) (S.taken source.old) (S.ended source.old))
-        (told (S.left source.new) (S.faults source.new) (S.taken source.new) (S.ended source.new)) }
+    ensures halts { IfErr result (λ halt. CheckHalts S.LIMIT halt readers.new (S.inputs source.old) (S.inputs source.new) (K.outputs sink.old) (K.outputs sink.new)) }
+    ensures written { Written (K.outputs sink.old) (K.outputs sink.new) }
+    ensures advance { Advance readers.old readers.new (S.inputs source.old) (S.inputs source.new) }
     ensures may_read { IfOk result (λ _. MayRead S.LIMIT readers.new) }
     ensures kept { readers.new.originals ≡ readers.old.originals }
 {
-    let more_lines = match readers.has_more_lines(source) {
-        Ok(more) => more,
-        Err(halt) => return Err(halt),
-    };
-    let more_records = match readers.has_more_records(source) {
-        Ok(more) => more,
-        Err(halt) => return Err(halt),
-    };
+    let more_lines = readers.has_more_lines(source)?;
+    let more_records = readers.has_more_records(source)?;
     let extra = more_lines || more_records;
-    match put_extra(extra, sink) {
-        Ok(()) => Ok(extra),
-        Err(_) => Err(Halt::WriteFault),
-    }
+    put_extra(extra, sink)?;
+    Ok(extra)
 }
 
 /// Whether each verdict is true, and nothing is extra.
@@ -240,18 +202,13 @@ fn is_all_true(all_true: bool, extra: bool) -> bool
 }
 
 /// Checks all originals, and then what is left, and says whether each verdict is true and nothing is extra.
-#[tactic(auto, using(crate::proofs::Checking::stopped_by, crate::proofs::Checking::limit_at, crate::proofs::Checking::no_limit, crate::proofs::CheckLifts::all_within))]
+#[tactic(auto, using(crate::proofs::Checking::stopped_by, crate::proofs::Limits::taken_stopped, crate::proofs::CheckLifts::all_within))]
 fn check_all<S: Source, K: Sink>(alloc: Global, source: &mut S, sink: &mut K) -> Result<bool, Halt>
-    requires { (i : ℕ) → i < 3 → S.taken source.old i < 2 ^ 127 }
-    ensures ran { CheckRan result
-        (told (S.left source.old) (S.faults source.old) (S.taken source.old) (S.ended source.old))
-        (told (S.left source.new) (S.faults source.new) (S.taken source.new) (S.ended source.new))
-        (held_by (K.held sink.old) (K.faults sink.old)) (held_by (K.held sink.new) (K.faults sink.new)) }
-    ensures limit { (result ≡ Err Halt.InputLimit) ↔ PastLimit S.LIMIT (S.taken source.old) (S.taken source.new) }
-    ensures written { Written (held_by (K.held sink.old) (K.faults sink.old)) (held_by (K.held sink.new) (K.faults sink.new)) }
-    ensures later_read { (i : ℕ) → i < 3 → S.faults source.old i ≤ S.faults source.new i }
-    ensures others { (i : ℕ) → 3 ≤ i →
-        told (S.left source.new) (S.faults source.new) (S.taken source.new) (S.ended source.new) i ≡ told (S.left source.old) (S.faults source.old) (S.taken source.old) (S.ended source.old) i }
+    ensures ran { CheckRan result (S.inputs source.old) (S.inputs source.new) (K.outputs sink.old) (K.outputs sink.new) }
+    ensures taken { Taken 3 S.LIMIT (result ≡ Err Halt.InputLimit) (S.inputs source.old) (S.inputs source.new) }
+    ensures written { Written (K.outputs sink.old) (K.outputs sink.new) }
+    ensures later_read { (i : ℕ) → i < 3 → (S.inputs source.old i).faults ≤ (S.inputs source.new i).faults }
+    ensures others { (i : ℕ) → 3 ≤ i → S.inputs source.new i ≡ S.inputs source.old i }
 {
     let mut readers = match CheckReaders::new(alloc) {
         Ok(readers) => readers,
@@ -269,46 +226,22 @@ fn check_all<S: Source, K: Sink>(alloc: Global, source: &mut S, sink: &mut K) ->
 
 /// Checks a report: reads the originals (input 0), the converted records (input 1) and the report (input 2), and
 /// writes a verdict line for each original to output 0.
-#[tactic(auto, using(crate::proofs::CheckEnds::only_memory, crate::proofs::CheckEnds::is_true, crate::proofs::CheckEnds::is_not_true))]
 pub fn check<S: Source, K: Sink>(alloc: Global, source: &mut S, sink: &mut K) -> Status
-    requires { (i : ℕ) → i < 3 → S.taken source.old i < 2 ^ 127 }
-
-    // The inputs were read to their ends, and the whole text is written.
-    ensures ended { (result ≡ Status.Done) ⊎ (result ≡ Status.SomeRefused) → (i : ℕ) → i < 3 → IsTrue (S.ended source.new i) }
-    ensures whole { (result ≡ Status.Done) ⊎ (result ≡ Status.SomeRefused) →
-        ChecksAll (S.left source.old 0) (S.left source.old 1) (S.left source.old 2) (K.held sink.old 0) (K.held sink.new 0) }
-
-    // Whether each verdict is true, and nothing is extra.
-    ensures done { result ≡ Status.Done → IfKnown (S.left source.old 0) (S.left source.old 1) (S.left source.old 2) IsAllTrue }
-    ensures some_refused { result ≡ Status.SomeRefused → IfKnown (S.left source.old 0) (S.left source.old 1) (S.left source.old 2) (λ o c r. ¬ IsAllTrue o c r) }
-
-    // No other status but want of memory comes where the inputs were read to their ends and the whole text is held.
-    ensures exactly { ((i : ℕ) → i < 3 → IsTrue (S.ended source.new i)) →
-        AllIsChecked (S.left source.old 0) (S.left source.old 1) (S.left source.old 2) (K.held sink.old 0) (K.held sink.new 0) →
-        (result ≡ Status.Done) ⊎ ((result ≡ Status.SomeRefused) ⊎ (result ≡ Status.Memory)) }
-
-    // Stopped by a fault, a limit or want of memory: a front of the text is written.
-    ensures stopped { IsStop result →
-        ChecksSome (S.left source.old 0) (S.left source.old 1) (S.left source.old 2) (K.held sink.old 0) (K.held sink.new 0) }
-
-    // Nothing is written to the other output.
-    ensures kept { K.held sink.new 1 ≡ K.held sink.old 1 }
-
-    // The causes of the stops.
-    ensures words { result ≢ Status.Usage }
-    ensures read { result ≡ Status.ReadFault → FaultsRose (S.faults source.old) (S.faults source.new) }
-    ensures write { result ≡ Status.WriteFault → Rose (K.faults sink.old) (K.faults sink.new) }
-    ensures limit { (result ≡ Status.InputLimit) ↔ PastLimit S.LIMIT (S.taken source.old) (S.taken source.new) }
-
-    // Faults are counted, and there are no other inputs.
-    ensures later_read { (i : ℕ) → i < 3 → S.faults source.old i ≤ S.faults source.new i }
-    ensures later_written { K.faults sink.old ≤ K.faults sink.new }
-    ensures others { (i : ℕ) → 3 ≤ i →
-        told (S.left source.new) (S.faults source.new) (S.taken source.new) (S.ended source.new) i ≡ told (S.left source.old) (S.faults source.old) (S.taken source.old) (S.ended source.old) i }
+    ensures { Checks S.LIMIT (S.inputs source.old) (S.inputs source.new) (K.outputs sink.old) (K.outputs sink.new) result }
 {
     match check_all(alloc, source, sink) {
-        Ok(true) => Status::Done,
-        Ok(false) => Status::SomeRefused,
+        Ok(all_true) => ended(all_true),
         Err(halt) => halt.status(),
+    }
+}
+
+/// How a check ends whose text is written.
+fn ended(all_true: bool) -> Status
+    ensures { result ≡ ended_status all_true }
+{
+    if all_true {
+        Status::Done
+    } else {
+        Status::SomeRefused
     }
 }

@@ -23,11 +23,10 @@ pub struct CheckReaders {
 impl CheckReaders {
     ghost use Rattle.std.specs.Prelude.{◌≡◌, ◌<◌, ◌≤◌, ◌^◌, ℕ, length, IfOk, IfErr, IfSome, OnOk, IsNone, IsSome, IsTrue, Ok, Some, is_some};
     ghost use Rattle.mc_io.specs.Lines.{most_bytes, lines_of};
-    ghost use Rattle.mc_io.specs.LineReader.{ahead};
+    ghost use Rattle.mc_io.specs.LineReader.{ahead, fresh};
     ghost use Rattle.mc_io.specs.Outside.{SameBut};
     ghost use Rattle.mc_convert.specs.Checks.{first};
     ghost use Rattle.mc_convert.specs.Records.{records};
-    ghost use Rattle.mc_convert.specs.Readers.{told, fresh};
     ghost use Rattle.mc_convert.specs.Findings.{AreReadAs, met};
     ghost use Rattle.mc_convert.specs.CheckSteps.{Advance, MayRead, ReadHalts, TakesFirst, ReadsNext, SaidNext};
 
@@ -53,27 +52,19 @@ impl CheckReaders {
         source: &mut S,
     ) -> Result<Option<RecordRead>, Halt>
         requires { MayRead S.LIMIT self.old }
-        ensures reads { IfOk result (ReadsNext records (ahead self.old.originals (S.left source.old 0)) (ahead self.new.originals (S.left source.new 0))) }
+        ensures reads { IfOk result (ReadsNext records (ahead self.old.originals (S.inputs source.old 0).left) (ahead self.new.originals (S.inputs source.new 0).left)) }
         ensures ended { IfOk result (λ read. IsNone read → IsTrue self.new.originals.ended) }
         ensures passed { IfOk result (λ read. IsSome read → self.old.originals.passed < self.new.originals.passed) }
         ensures few { self.new.originals.passed < 2 ^ 64 }
-        ensures advance { Advance self.old self.new
-            (told (S.left source.old) (S.faults source.old) (S.taken source.old) (S.ended source.old))
-            (told (S.left source.new) (S.faults source.new) (S.taken source.new) (S.ended source.new)) }
+        ensures advance { Advance self.old self.new (S.inputs source.old) (S.inputs source.new) }
         ensures may_read { IfOk result (λ _. MayRead S.LIMIT self.new) }
-        ensures halts { IfErr result (λ halt. ReadHalts S.LIMIT halt self.new
-            (told (S.left source.old) (S.faults source.old) (S.taken source.old) (S.ended source.old))
-            (told (S.left source.new) (S.faults source.new) (S.taken source.new) (S.ended source.new))) }
+        ensures halts { IfErr result (λ halt. ReadHalts S.LIMIT halt self.new (S.inputs source.old) (S.inputs source.new)) }
         ensures kept { (self.new.converted ≡ self.old.converted) × (self.new.report ≡ self.old.report) }
-        ensures others { SameBut 0 (S.left source.old) (S.left source.new) }
+        ensures others { SameBut 0 (S.inputs source.old) (S.inputs source.new) }
     {
-        match next_record(&mut self.originals, source) {
-            Ok(next) => match read_next(alloc, next, &self.originals) {
-                Ok(read) => Ok(read),
-                Err(_) => Err(Halt::NoMemory),
-            },
-            Err(stop) => Err(Halt::from(stop)),
-        }
+        let next = next_record(&mut self.originals, source)?;
+        let read = read_next(alloc, next, &self.originals)?;
+        Ok(read)
     }
 
     /// Passes the next converted record and reads it.
@@ -84,25 +75,17 @@ impl CheckReaders {
         source: &mut S,
     ) -> Result<Option<RecordRead>, Halt>
         requires { MayRead S.LIMIT self.old }
-        ensures reads { IfOk result (ReadsNext records (ahead self.old.converted (S.left source.old 1)) (ahead self.new.converted (S.left source.new 1))) }
+        ensures reads { IfOk result (ReadsNext records (ahead self.old.converted (S.inputs source.old 1).left) (ahead self.new.converted (S.inputs source.new 1).left)) }
         ensures ended { IfOk result (λ read. IsNone read → IsTrue self.new.converted.ended) }
-        ensures advance { Advance self.old self.new
-            (told (S.left source.old) (S.faults source.old) (S.taken source.old) (S.ended source.old))
-            (told (S.left source.new) (S.faults source.new) (S.taken source.new) (S.ended source.new)) }
+        ensures advance { Advance self.old self.new (S.inputs source.old) (S.inputs source.new) }
         ensures may_read { IfOk result (λ _. MayRead S.LIMIT self.new) }
-        ensures halts { IfErr result (λ halt. ReadHalts S.LIMIT halt self.new
-            (told (S.left source.old) (S.faults source.old) (S.taken source.old) (S.ended source.old))
-            (told (S.left source.new) (S.faults source.new) (S.taken source.new) (S.ended source.new))) }
+        ensures halts { IfErr result (λ halt. ReadHalts S.LIMIT halt self.new (S.inputs source.old) (S.inputs source.new)) }
         ensures kept { (self.new.originals ≡ self.old.originals) × (self.new.report ≡ self.old.report) }
-        ensures others { SameBut 1 (S.left source.old) (S.left source.new) }
+        ensures others { SameBut 1 (S.inputs source.old) (S.inputs source.new) }
     {
-        match next_record(&mut self.converted, source) {
-            Ok(next) => match read_next(alloc, next, &self.converted) {
-                Ok(read) => Ok(read),
-                Err(_) => Err(Halt::NoMemory),
-            },
-            Err(stop) => Err(Halt::from(stop)),
-        }
+        let next = next_record(&mut self.converted, source)?;
+        let read = read_next(alloc, next, &self.converted)?;
+        Ok(read)
     }
 
     /// Passes the next line of the report, and gives what it says of record k.
@@ -114,68 +97,48 @@ impl CheckReaders {
         source: &mut S,
     ) -> Result<Option<ReportLine>, Halt>
         requires { MayRead S.LIMIT self.old }
-        ensures says { IfOk result (SaidNext k (ahead self.old.report (S.left source.old 2)) (ahead self.new.report (S.left source.new 2))) }
-        ensures advance { Advance self.old self.new
-            (told (S.left source.old) (S.faults source.old) (S.taken source.old) (S.ended source.old))
-            (told (S.left source.new) (S.faults source.new) (S.taken source.new) (S.ended source.new)) }
+        ensures says { IfOk result (SaidNext k (ahead self.old.report (S.inputs source.old 2).left) (ahead self.new.report (S.inputs source.new 2).left)) }
+        ensures advance { Advance self.old self.new (S.inputs source.old) (S.inputs source.new) }
         ensures may_read { IfOk result (λ _. MayRead S.LIMIT self.new) }
-        ensures halts { IfErr result (λ halt. ReadHalts S.LIMIT halt self.new
-            (told (S.left source.old) (S.faults source.old) (S.taken source.old) (S.ended source.old))
-            (told (S.left source.new) (S.faults source.new) (S.taken source.new) (S.ended source.new))) }
+        ensures halts { IfErr result (λ halt. ReadHalts S.LIMIT halt self.new (S.inputs source.old) (S.inputs source.new)) }
         ensures kept { (self.new.originals ≡ self.old.originals) × (self.new.converted ≡ self.old.converted) }
-        ensures others { SameBut 2 (S.left source.old) (S.left source.new) }
+        ensures others { SameBut 2 (S.inputs source.old) (S.inputs source.new) }
     {
-        match next_line(&mut self.report, source) {
-            Ok(next) => match said_next(alloc, k, next, &self.report) {
-                Ok(said) => Ok(said),
-                Err(_) => Err(Halt::NoMemory),
-            },
-            Err(stop) => Err(Halt::from(stop)),
-        }
+        let next = next_line(&mut self.report, source)?;
+        let said = said_next(alloc, k, next, &self.report)?;
+        Ok(said)
     }
 
     /// Reads the report to its end, and says whether a line was left.
     #[tactic(auto, using(crate::proofs::CheckLifts::report_advance, crate::proofs::CheckLifts::report_halts, crate::proofs::CheckLifts::may_read_on))]
     pub fn has_more_lines<S: Source>(&mut self, source: &mut S) -> Result<bool, Halt>
         requires { MayRead S.LIMIT self.old }
-        ensures some { IfOk result (λ some. IfSome (ahead self.old.report (S.left source.old 2)) (λ bytes. some ≡ is_some (first (lines_of bytes)))) }
+        ensures some { IfOk result (λ some. IfSome (ahead self.old.report (S.inputs source.old 2).left) (λ bytes. some ≡ is_some (first (lines_of bytes)))) }
         ensures ended { IfOk result (λ _. IsTrue self.new.report.ended) }
-        ensures advance { Advance self.old self.new
-            (told (S.left source.old) (S.faults source.old) (S.taken source.old) (S.ended source.old))
-            (told (S.left source.new) (S.faults source.new) (S.taken source.new) (S.ended source.new)) }
+        ensures advance { Advance self.old self.new (S.inputs source.old) (S.inputs source.new) }
         ensures may_read { IfOk result (λ _. MayRead S.LIMIT self.new) }
-        ensures halts { IfErr result (λ halt. ReadHalts S.LIMIT halt self.new
-            (told (S.left source.old) (S.faults source.old) (S.taken source.old) (S.ended source.old))
-            (told (S.left source.new) (S.faults source.new) (S.taken source.new) (S.ended source.new))) }
+        ensures halts { IfErr result (λ halt. ReadHalts S.LIMIT halt self.new (S.inputs source.old) (S.inputs source.new)) }
         ensures kept { (self.new.originals ≡ self.old.originals) × (self.new.converted ≡ self.old.converted) }
-        ensures others { SameBut 2 (S.left source.old) (S.left source.new) }
+        ensures others { SameBut 2 (S.inputs source.old) (S.inputs source.new) }
     {
-        match more_lines(&mut self.report, source) {
-            Ok(more) => Ok(more),
-            Err(stop) => Err(Halt::from(stop)),
-        }
+        let more = more_lines(&mut self.report, source)?;
+        Ok(more)
     }
 
     /// Reads the converted records to their end, and says whether one was left.
     #[tactic(auto, using(crate::proofs::CheckLifts::converted_advance, crate::proofs::CheckLifts::converted_halts, crate::proofs::CheckLifts::may_read_on))]
     pub fn has_more_records<S: Source>(&mut self, source: &mut S) -> Result<bool, Halt>
         requires { MayRead S.LIMIT self.old }
-        ensures some { IfOk result (λ some. IfSome (ahead self.old.converted (S.left source.old 1)) (λ bytes. some ≡ is_some (first (records bytes)))) }
+        ensures some { IfOk result (λ some. IfSome (ahead self.old.converted (S.inputs source.old 1).left) (λ bytes. some ≡ is_some (first (records bytes)))) }
         ensures ended { IfOk result (λ _. IsTrue self.new.converted.ended) }
-        ensures advance { Advance self.old self.new
-            (told (S.left source.old) (S.faults source.old) (S.taken source.old) (S.ended source.old))
-            (told (S.left source.new) (S.faults source.new) (S.taken source.new) (S.ended source.new)) }
+        ensures advance { Advance self.old self.new (S.inputs source.old) (S.inputs source.new) }
         ensures may_read { IfOk result (λ _. MayRead S.LIMIT self.new) }
-        ensures halts { IfErr result (λ halt. ReadHalts S.LIMIT halt self.new
-            (told (S.left source.old) (S.faults source.old) (S.taken source.old) (S.ended source.old))
-            (told (S.left source.new) (S.faults source.new) (S.taken source.new) (S.ended source.new))) }
+        ensures halts { IfErr result (λ halt. ReadHalts S.LIMIT halt self.new (S.inputs source.old) (S.inputs source.new)) }
         ensures kept { (self.new.originals ≡ self.old.originals) × (self.new.report ≡ self.old.report) }
-        ensures others { SameBut 1 (S.left source.old) (S.left source.new) }
+        ensures others { SameBut 1 (S.inputs source.old) (S.inputs source.new) }
     {
-        match more_records(&mut self.converted, source) {
-            Ok(more) => Ok(more),
-            Err(stop) => Err(Halt::from(stop)),
-        }
+        let more = more_records(&mut self.converted, source)?;
+        Ok(more)
     }
 }
 

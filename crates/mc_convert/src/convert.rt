@@ -1,11 +1,11 @@
-ghost use Rattle.std.specs.Prelude.{◌≡◌, ◌≢◌, ◌↔◌, ◌^◌, ◌<◌, ◌+◌, ◌≤◌, ◌⊎◌, length, IsTrue, IfOk, IfSome, OnOk, OnErr, Err, Some};
-ghost use Rattle.mc_io.specs.Causes.{HasCause, Rose};
+ghost use Rattle.std.specs.Prelude.{◌≡◌, ◌↔◌, ◌<◌, ◌≤◌, length, IsTrue, IfOk, OnOk, OnErr, Err, Some};
+ghost use Rattle.mc_io.specs.Causes.{HasCause};
 ghost use Rattle.mc_io.specs.Lines.{IsLineText, most_bytes};
 ghost use Rattle.mc_io.specs.Outside.{SameBut};
-ghost use Rattle.mc_convert.specs.Records.{records};
-ghost use Rattle.mc_convert.specs.Readers.{told, found};
+ghost use Rattle.mc_convert.specs.Promises.{Converts};
+ghost use Rattle.mc_convert.specs.Readers.{found};
 ghost use Rattle.mc_convert.specs.Answers.{IsAnswer};
-ghost use Rattle.mc_convert.specs.Runs.{IsShown, SomeShown, AnswersAll, AnswersSome, AllIsHeld, IsStop, Holds, HoldsLess, Ran, held_by};
+ghost use Rattle.mc_convert.specs.Runs.{IsShown, Holds, HoldsLess, Ran, Taken};
 
 use crate::answer::{Answer, answer_long, answer_record};
 use crate::records::{NextLine, next_record};
@@ -33,9 +33,9 @@ fn answer_next(alloc: Global, k: u64, lines: &Lines, next: NextLine) -> Result<A
 
 /// Writes an answer: the record, and then its report line.
 fn put_answer<K: Sink>(answer: &Answer, sink: &mut K) -> Result<(), Failed>
-    ensures all { OnOk result (Holds (record { out = answer.now.out; report = answer.now.report }) (held_by (K.held sink.old) (K.faults sink.old)) (held_by (K.held sink.new) (K.faults sink.new))) }
-    ensures part { OnErr result (HoldsLess (record { out = answer.now.out; report = answer.now.report }) (held_by (K.held sink.old) (K.faults sink.old)) (held_by (K.held sink.new) (K.faults sink.new))) }
-    ensures cause { HasCause (K.faults sink.old) (K.faults sink.new) result }
+    ensures all { OnOk result (Holds (record { out = answer.now.out; report = answer.now.report }) (K.outputs sink.old) (K.outputs sink.new)) }
+    ensures part { OnErr result (HoldsLess (record { out = answer.now.out; report = answer.now.report }) (K.outputs sink.old) (K.outputs sink.new)) }
+    ensures cause { HasCause (K.outputs sink.old).faults (K.outputs sink.new).faults result }
 {
     match put_all(sink, 0, answer.out.as_slice()) {
         Err(failed) => Err(failed),
@@ -48,19 +48,12 @@ fn put_answer<K: Sink>(answer: &Answer, sink: &mut K) -> Result<(), Failed>
 
 /// Answers each record of input 0, and says whether one is refused.
 fn answer_all<S: Source, K: Sink>(alloc: Global, source: &mut S, sink: &mut K) -> Result<bool, Halt>
-    requires { S.taken source.old 0 < 2 ^ 127 }
+    ensures ran { Ran result (S.inputs source.old 0) (S.inputs source.new 0) (K.outputs sink.old) (K.outputs sink.new) }
+    ensures taken { Taken 1 S.LIMIT (result ≡ Err Halt.InputLimit) (S.inputs source.old) (S.inputs source.new) }
 
-    ensures ran { Ran result
-        (told (S.left source.old) (S.faults source.old) (S.taken source.old) (S.ended source.old) 0)
-        (told (S.left source.new) (S.faults source.new) (S.taken source.new) (S.ended source.new) 0)
-        (held_by (K.held sink.old) (K.faults sink.old)) (held_by (K.held sink.new) (K.faults sink.new)) }
-    ensures limit { (result ≡ Err Halt.InputLimit) ↔ (S.taken source.old 0 + S.LIMIT < S.taken source.new 0) }
-
-    ensures later_read { S.faults source.old 0 ≤ S.faults source.new 0 }
-    ensures later_written { K.faults sink.old ≤ K.faults sink.new }
-    ensures others { SameBut 0
-        (told (S.left source.old) (S.faults source.old) (S.taken source.old) (S.ended source.old))
-        (told (S.left source.new) (S.faults source.new) (S.taken source.new) (S.ended source.new)) }
+    ensures later_read { (S.inputs source.old 0).faults ≤ (S.inputs source.new 0).faults }
+    ensures later_written { (K.outputs sink.old).faults ≤ (K.outputs sink.new).faults }
+    ensures others { SameBut 0 (S.inputs source.old) (S.inputs source.new) }
 {
     let mut lines = match Lines::new(alloc, 0) {
         Ok(lines) => lines,
@@ -90,38 +83,9 @@ fn answer_all<S: Source, K: Sink>(alloc: Global, source: &mut S, sink: &mut K) -
 
 /// Answers each record of input 0, in order, with a written record at output 0 or none, and a report line at
 /// output 1.
+#[tactic(auto, using(crate::proofs::Promised::converts_done, crate::proofs::Promised::converts_refused, crate::proofs::Promised::converts_stopped, crate::proofs::Limits::taken_status, crate::proofs::Limits::taken_done, crate::proofs::Limits::taken_refused))]
 pub fn convert<S: Source, K: Sink>(alloc: Global, source: &mut S, sink: &mut K) -> Status
-    requires { S.taken source.old 0 < 2 ^ 127 }
-
-    // The headline: the input was read to its end, and each record is answered, by itself and whole.
-    ensures whole { (result ≡ Status.Done) ⊎ (result ≡ Status.SomeRefused) →
-        IsTrue (S.ended source.new 0) × AnswersAll (S.left source.old 0) (K.held sink.old 0) (K.held sink.new 0) (K.held sink.old 1) (K.held sink.new 1) }
-
-    // Whether a record is refused.
-    ensures done { result ≡ Status.Done → IfSome (S.left source.old 0) (λ input. SomeShown (records input) → ⊥) }
-    ensures some_refused { result ≡ Status.SomeRefused → IfSome (S.left source.old 0) (λ input. SomeShown (records input)) }
-
-    // No other status but want of memory comes where the input was read to its end and all answers are held.
-    ensures exactly { IsTrue (S.ended source.new 0) →
-        AllIsHeld (S.left source.old 0) (K.held sink.old 0) (K.held sink.new 0) (K.held sink.old 1) (K.held sink.new 1) →
-        (result ≡ Status.Done) ⊎ ((result ≡ Status.SomeRefused) ⊎ (result ≡ Status.Memory)) }
-
-    // Stopped by a fault, a limit or want of memory: the first records are answered, the last of them maybe in part.
-    ensures stopped { IsStop result →
-        AnswersSome (S.left source.old 0) (K.held sink.old 0) (K.held sink.new 0) (K.held sink.old 1) (K.held sink.new 1) }
-
-    // The causes of the stops.
-    ensures words { result ≢ Status.Usage }
-    ensures read { result ≡ Status.ReadFault → Rose (S.faults source.old 0) (S.faults source.new 0) }
-    ensures write { result ≡ Status.WriteFault → Rose (K.faults sink.old) (K.faults sink.new) }
-    ensures limit { (result ≡ Status.InputLimit) ↔ (S.taken source.old 0 + S.LIMIT < S.taken source.new 0) }
-
-    // Faults are counted, and the other inputs stay as they were.
-    ensures later_read { S.faults source.old 0 ≤ S.faults source.new 0 }
-    ensures later_written { K.faults sink.old ≤ K.faults sink.new }
-    ensures others { SameBut 0
-        (told (S.left source.old) (S.faults source.old) (S.taken source.old) (S.ended source.old))
-        (told (S.left source.new) (S.faults source.new) (S.taken source.new) (S.ended source.new)) }
+    ensures { Converts S.LIMIT (S.inputs source.old) (S.inputs source.new) (K.outputs sink.old) (K.outputs sink.new) result }
 {
     match answer_all(alloc, source, sink) {
         Ok(false) => Status::Done,

@@ -1,9 +1,11 @@
 ghost use Rattle.std.specs.Prelude.{◌≡◌, ◌++◌, ◌↔◌, ℕ, List, Option, OnOk, IfOk, IsTrue, decimal};
+ghost use Rattle.mc_base.specs.Shown.{HasReason};
+ghost use Rattle.mc_convert.specs.Answers.{IsBarrierOf, Shows};
 ghost use Rattle.mc_convert.specs.Findings.{is_true, difference_text, finding_text, verdict_line, FindsSaid, IsMapFinding, IsReadAs, IsRefusalFinding, AreReadAs, if_numbered, met};
 
 use crate::record_read::RecordRead;
 use crate::records::NextLine;
-use mc_base::{AtomId, NoMemory, Refusal, Text, Verdict};
+use mc_base::{AtomId, Kind, NoMemory, Refusal, Text, Verdict};
 use mc_digits::put_number;
 use mc_report::{ReportLine, read_line};
 use mc_same::check_map;
@@ -146,7 +148,7 @@ pub fn refusal_finding(original: &RecordRead, refusal: &Refusal) -> Finding
 {
     match original {
         RecordRead::Refused(shown) => {
-            if is_same_refusal(shown, refusal) {
+            if shows_too(shown, refusal) {
                 Finding::Shown
             } else {
                 Finding::Refusal
@@ -156,18 +158,28 @@ pub fn refusal_finding(original: &RecordRead, refusal: &Refusal) -> Finding
     }
 }
 
-#[tactic(auto, using(crate::proofs::SameRefusal::same_parts))]
-fn is_same_refusal(first: &Refusal, second: &Refusal) -> bool
-    ensures { IsTrue result ↔ (first.now ≡ second.now) }
+/// Whether a record that shows one refusal shows another: kind and place are its own, and a barrier may be any.
+#[tactic(auto, using(crate::proofs::SameRefusal::not_shown))]
+fn shows_too(shown: &Refusal, said: &Refusal) -> bool
+    ensures { (given : Option (List ℕ)) → Shows given shown.now → IsTrue result ↔ Shows given said.now }
 {
-    if first.kind == second.kind && first.place == second.place && first.odd == second.odd {
-        return are_same_atoms(first.barrier.as_slice(), second.barrier.as_slice());
-    }
-    false
+    are_at_one_place(shown, said) && has_reason(said)
 }
 
-fn are_same_atoms(first: &[AtomId], second: &[AtomId]) -> bool
-    ensures { IsTrue result ↔ (first.now ≡ second.now) }
+/// Whether two refusals are of one kind at one place.
+fn are_at_one_place(first: &Refusal, second: &Refusal) -> bool
+    ensures { IsTrue result ↔ ((first.now.kind ≡ second.now.kind) × (first.now.place ≡ second.now.place)) }
 {
-    first == second
+    first.kind == second.kind && first.place == second.place
+}
+
+/// Whether what is said beside kind and place is right.
+fn has_reason(refusal: &Refusal) -> bool
+    ensures { (given : Option (List ℕ)) → IsTrue result ↔ HasReason (IsBarrierOf given) refusal.now.kind refusal.now.barrier refusal.now.odd }
+{
+    match refusal.kind {
+        // no record that is read needs a placement yet
+        Kind::NoPlacement => false,
+        _ => refusal.barrier.len() == 0 && refusal.odd == 0,
+    }
 }

@@ -21,14 +21,4 @@ pub use names::{NameList, input_names};
 pub use status::Status;
 
 #[cfg(test)]
-mod all_small;
-#[cfg(test)]
-mod check_tests;
-#[cfg(test)]
-mod rows;
-#[cfg(test)]
-mod several;
-#[cfg(test)]
 mod tests;
-#[cfg(test)]
-mod words_tests;

@@ -1,8 +1,8 @@
 ghost use Rattle.std.specs.Prelude.{◌≡◌, ◌+◌, ◌<◌, ◌≤◌, ◌^◌, Ok, Some, IfOk, length};
 ghost use Rattle.mc_io.specs.Outside.{SameBut};
 ghost use Rattle.mc_io.specs.Lines.{IsLineText, most_bytes};
-ghost use Rattle.mc_io.specs.LineReader.{MayGoOn, ahead};
-ghost use Rattle.mc_convert.specs.Readers.{told, Reading, HasEnded, GivesLine, GivesRecord, passed_by};
+ghost use Rattle.mc_io.specs.LineReader.{MayGoOn, Reading, ahead};
+ghost use Rattle.mc_convert.specs.Readers.{HasEnded, GivesLine, GivesRecord, passed_by};
 
 use mc_io::{LineStep, Lines, ReadStop, Source};
 
@@ -21,7 +21,7 @@ pub fn next_line<S: Source>(lines: &mut Lines, source: &mut S) -> Result<NextLin
     requires goes_on { MayGoOn lines.old.answer }
     requires within { lines.old.taken ≤ S.LIMIT }
 
-    ensures line { GivesLine result (ahead lines.old (S.left source.old lines.old.input)) (ahead lines.new (S.left source.new lines.old.input)) lines.new.text }
+    ensures line { GivesLine result (ahead lines.old (S.inputs source.old lines.old.input).left) (ahead lines.new (S.inputs source.new lines.old.input).left) lines.new.text }
     ensures given { result ≡ Ok NextLine.Line → lines.new.answer ≡ Some LineStep.Line }
     ensures short { result ≡ Ok NextLine.Line → length lines.new.text ≤ most_bytes }
     ensures text { result ≡ Ok NextLine.Line → IsLineText lines.new.text }
@@ -30,15 +30,9 @@ pub fn next_line<S: Source>(lines: &mut Lines, source: &mut S) -> Result<NextLin
     ensures few { lines.new.passed < 2 ^ 64 }
 
     // What is true of the reader and of what the source tells of its input; nothing of the others changes.
-    ensures reading { Reading lines.old lines.new
-        (told (S.left source.old) (S.faults source.old) (S.taken source.old) (S.ended source.old) lines.old.input)
-        (told (S.left source.new) (S.faults source.new) (S.taken source.new) (S.ended source.new) lines.old.input) }
-    ensures ended { HasEnded S.LIMIT result lines.new
-        (told (S.left source.old) (S.faults source.old) (S.taken source.old) (S.ended source.old) lines.old.input)
-        (told (S.left source.new) (S.faults source.new) (S.taken source.new) (S.ended source.new) lines.old.input) }
-    ensures others { SameBut lines.old.input
-        (told (S.left source.old) (S.faults source.old) (S.taken source.old) (S.ended source.old))
-        (told (S.left source.new) (S.faults source.new) (S.taken source.new) (S.ended source.new)) }
+    ensures reading { Reading lines.old lines.new (S.inputs source.old lines.old.input) (S.inputs source.new lines.old.input) }
+    ensures ended { HasEnded S.LIMIT result lines.new (S.inputs source.old lines.old.input) (S.inputs source.new lines.old.input) }
+    ensures others { SameBut lines.old.input (S.inputs source.old) (S.inputs source.new) }
 {
     match lines.next(source) {
         LineStep::Line => Ok(NextLine::Line),
@@ -51,11 +45,12 @@ pub fn next_line<S: Source>(lines: &mut Lines, source: &mut S) -> Result<NextLin
 }
 
 /// Passes the next record of an input, and the empty lines before it. After the end it may be called again.
+#[tactic(auto, using(crate::proofs::ReaderSteps::reading_on))]
 pub fn next_record<S: Source>(lines: &mut Lines, source: &mut S) -> Result<NextLine, ReadStop>
     requires goes_on { MayGoOn lines.old.answer }
     requires within { lines.old.taken ≤ S.LIMIT }
 
-    ensures line { GivesRecord result (ahead lines.old (S.left source.old lines.old.input)) (ahead lines.new (S.left source.new lines.old.input)) lines.new.text }
+    ensures line { GivesRecord result (ahead lines.old (S.inputs source.old lines.old.input).left) (ahead lines.new (S.inputs source.new lines.old.input).left) lines.new.text }
     ensures some { result ≡ Ok NextLine.Line → 0 < length lines.new.text }
     ensures given { result ≡ Ok NextLine.Line → lines.new.answer ≡ Some LineStep.Line }
     ensures short { result ≡ Ok NextLine.Line → length lines.new.text ≤ most_bytes }
@@ -64,20 +59,20 @@ pub fn next_record<S: Source>(lines: &mut Lines, source: &mut S) -> Result<NextL
     ensures passed { IfOk result (λ next. lines.old.passed + passed_by next ≤ lines.new.passed) }
     ensures few { lines.new.passed < 2 ^ 64 }
 
-    ensures reading { Reading lines.old lines.new
-        (told (S.left source.old) (S.faults source.old) (S.taken source.old) (S.ended source.old) lines.old.input)
-        (told (S.left source.new) (S.faults source.new) (S.taken source.new) (S.ended source.new) lines.old.input) }
-    ensures ended { HasEnded S.LIMIT result lines.new
-        (told (S.left source.old) (S.faults source.old) (S.taken source.old) (S.ended source.old) lines.old.input)
-        (told (S.left source.new) (S.faults source.new) (S.taken source.new) (S.ended source.new) lines.old.input) }
-    ensures others { SameBut lines.old.input
-        (told (S.left source.old) (S.faults source.old) (S.taken source.old) (S.ended source.old))
-        (told (S.left source.new) (S.faults source.new) (S.taken source.new) (S.ended source.new)) }
+    ensures reading { Reading lines.old lines.new (S.inputs source.old lines.old.input) (S.inputs source.new lines.old.input) }
+    ensures ended { HasEnded S.LIMIT result lines.new (S.inputs source.old lines.old.input) (S.inputs source.new lines.old.input) }
+    ensures others { SameBut lines.old.input (S.inputs source.old) (S.inputs source.new) }
 {
     loop {
-        let next = next_line(lines, source);
-        if next != Ok(NextLine::Line) || !lines.line().is_empty() {
-            return next;
+        match next_line(lines, source) {
+            Ok(NextLine::Line) => {
+                if !lines.line().is_empty() {
+                    return Ok(NextLine::Line);
+                }
+            }
+            Ok(NextLine::TooLong) => return Ok(NextLine::TooLong),
+            Ok(NextLine::End) => return Ok(NextLine::End),
+            Err(stop) => return Err(stop),
         }
     }
 }

@@ -1,6 +1,7 @@
 ghost use Rattle.std.specs.Prelude.{◌≡◌};
 ghost use Rattle.mc_convert.specs.Statuses.{status_number, status_of};
 
+use mc_base::{Failed, NoMemory};
 use mc_io::ReadStop;
 
 /// How a run ended.
@@ -65,5 +66,28 @@ impl From<ReadStop> for Halt {
             ReadStop::InputLimit => Halt::InputLimit,
             ReadStop::NoMemory => Halt::NoMemory,
         }
+    }
+}
+
+impl From<NoMemory> for Halt {
+    ghost use Rattle.std.specs.Prelude.{◌≡◌};
+    ghost use Rattle.mc_convert.specs.declared.status.Halt.TheVariants.{NoMemory};
+
+    ghost from_gives = { λ _ halt. halt ≡ NoMemory };
+
+    fn from(_: NoMemory) -> Halt {
+        Halt::NoMemory
+    }
+}
+
+/// A write has failed; a read that fails is told by its reader.
+impl From<Failed> for Halt {
+    ghost use Rattle.std.specs.Prelude.{◌≡◌};
+    ghost use Rattle.mc_convert.specs.declared.status.Halt.TheVariants.{WriteFault};
+
+    ghost from_gives = { λ _ halt. halt ≡ WriteFault };
+
+    fn from(_: Failed) -> Halt {
+        Halt::WriteFault
     }
 }

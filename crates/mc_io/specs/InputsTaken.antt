@@ -1,7 +1,8 @@
 -- What inputs in memory tell.
-use Rattle.std.specs.Prelude.{ℕ, Bool, List, length, min}
+use Rattle.std.specs.Prelude.{ℕ, Bool, List, Some, length, min}
 use Rattle.mc_io.specs.declared.inputs.Inputs.{Inputs}
 use Rattle.mc_io.specs.Inputs.{left_at, taking_at}
+use Rattle.mc_io.specs.Outside.{Input}
 
 -- what is left of an input
 abbrev pub left_of : Inputs → ℕ → List ℕ
@@ -14,6 +15,10 @@ taken_of inputs i = (taking_at inputs.takings i).taken
 -- whether the last read of an input gave its end
 abbrev pub ended_of : Inputs → ℕ → Bool
 ended_of inputs i = (taking_at inputs.takings i).ended
+
+-- what is told of an input of which so many reads have failed
+abbrev pub told_of : Inputs → ℕ → ℕ → Input
+told_of inputs faults i = record { left = Some (left_of inputs i); faults = faults; taken = taken_of inputs i; ended = ended_of inputs i }
 
 -- how many bytes a read gives at most
 abbrev pub piece_of : Inputs → ℕ

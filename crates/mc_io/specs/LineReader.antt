@@ -1,11 +1,12 @@
 -- What a reader of lines has, and what its answers say.
-use Rattle.std.specs.Prelude.{◌≡◌, ℕ, ◌+◌, ◌<◌, ◌≤◌, ◌^◌, Bool, true, false, List, [], ◌∷◌, ◌++◌, length, Option, Some, None, ⊤}
+use Rattle.std.specs.Prelude.{◌≡◌, ℕ, ◌+◌, ◌<◌, ◌≤◌, ◌^◌, Bool, true, false, IsTrue, List, [], ◌∷◌, ◌++◌, length, Option, Some, None, ⊤}
 use Rattle.std.specs.Io.KnownBytes.{IsAtEnd, prepend_known}
 use Rattle.mc_io.specs.declared.lines.LineStep.{LineStep}
 use Rattle.mc_io.specs.declared.lines.LineStep.TheVariants.{Line, TooLong, End, ReadFault, InputLimit, NoMemory}
 use Rattle.mc_io.specs.declared.whole.ReadStop.{ReadStop}
 use Rattle.mc_io.specs.declared.whole.ReadStop.TheVariants.{ReadFault as ReadFailed, InputLimit as LimitReached, NoMemory as MemoryOut}
 use Rattle.mc_io.specs.Lines.{lines_of}
+use Rattle.mc_io.specs.Outside.{Input, Takes}
 
 -- a reader of lines: the number of its input; the bytes that were read and aren't passed; how many bytes its reads have
 -- taken; whether they have met the end; how many lines were passed; the text of the line that was given last; and
@@ -18,6 +19,19 @@ pub record LineReader : Type 0 where
   pub passed : ℕ
   pub text : List ℕ
   pub answer : Option LineStep
+
+-- a reader that has read nothing yet
+abbrev pub fresh : ℕ → LineReader
+fresh input = record { input = input; held = []; taken = 0; ended = false; passed = 0; text = []; answer = None }
+
+-- Its reads took these bytes of its input and no others, and it counts them. It has met the end where the source says so.
+pub record Reading (old new : LineReader) (before after : Input) : Type 0 where
+  pub input : new.input ≡ old.input
+  pub bytes : List ℕ
+  pub takes : Takes before after bytes
+  pub taken : new.taken ≡ old.taken + length bytes
+  pub few : old.taken < 2 ^ 65 → new.taken < 2 ^ 65
+  pub at_end : (IsTrue old.ended → IsTrue before.ended) → IsTrue new.ended → IsTrue after.ended
 
 -- it is new, has passed a line, or has met the end
 abbrev pub MayGoOn : Option LineStep → Type 0

@@ -1,6 +1,7 @@
 -- What a sink in memory tells.
 use Rattle.std.specs.Prelude.{ℕ, List, Option, Some, None, min, slice_get}
 use Rattle.mc_io.specs.declared.room.Room.{Room}
+use Rattle.mc_io.specs.Outside.{Outputs}
 use Rattle.mc_io.specs.Rooms.{held_of, room_left_of}
 use Rattle.mc_io.specs.declared.memory_sink.MemorySink.{MemorySink}
 
@@ -20,9 +21,9 @@ left_in (Some r) = room_left_of r
 abbrev pub room_left : MemorySink → ℕ → ℕ
 room_left s o = left_in (slice_get s.outputs o)
 
--- how often writes have failed
-abbrev pub faults : MemorySink → ℕ
-faults s = s.faults
+-- what is told of the outputs
+abbrev pub outputs_of : MemorySink → Outputs
+outputs_of s = record { held = held s; faults = s.faults }
 
 -- how many bytes a write takes at most
 abbrev pub greatest_piece : MemorySink → ℕ

@@ -1,23 +1,12 @@
 -- What a source in memory tells.
-use Rattle.std.specs.Prelude.{ℕ, Bool, List, Option, Some, get_or}
+use Rattle.std.specs.Prelude.{ℕ, List, get_or}
 use Rattle.mc_io.specs.declared.memory_source.MemorySource.{MemorySource}
-use Rattle.mc_io.specs.InputsTaken.{left_of, taken_of, ended_of, piece_of, given_of}
+use Rattle.mc_io.specs.Outside.{Input}
+use Rattle.mc_io.specs.InputsTaken.{told_of, piece_of, given_of}
 
--- what is left of an input
-abbrev pub left : {LIMIT : ℕ} → MemorySource LIMIT → ℕ → Option (List ℕ)
-left s i = Some (left_of s.inputs i)
-
--- how often reads of an input have failed
-abbrev pub faults : {LIMIT : ℕ} → MemorySource LIMIT → ℕ → ℕ
-faults s i = get_or s.faults i 0
-
--- how many bytes of an input have been taken
-abbrev pub taken : {LIMIT : ℕ} → MemorySource LIMIT → ℕ → ℕ
-taken s i = taken_of s.inputs i
-
--- whether the last read of an input gave its end
-abbrev pub ended : {LIMIT : ℕ} → MemorySource LIMIT → ℕ → Bool
-ended s i = ended_of s.inputs i
+-- what is told of an input
+abbrev pub inputs_of : {LIMIT : ℕ} → MemorySource LIMIT → ℕ → Input
+inputs_of s i = told_of s.inputs (get_or s.faults i 0) i
 
 -- how many bytes a read gives at most
 abbrev pub greatest_piece : {LIMIT : ℕ} → MemorySource LIMIT → ℕ

@@ -1,23 +1,12 @@
 -- What a source in memory that never fails tells.
-use Rattle.std.specs.Prelude.{ℕ, Bool, List, Option, Some}
+use Rattle.std.specs.Prelude.{ℕ}
 use Rattle.mc_io.specs.declared.safe_source.SafeSource.{SafeSource}
-use Rattle.mc_io.specs.InputsTaken.{left_of, taken_of, ended_of, piece_of, given_of}
+use Rattle.mc_io.specs.Outside.{Input}
+use Rattle.mc_io.specs.InputsTaken.{told_of, piece_of, given_of}
 
--- what is left of an input
-abbrev pub left : {LIMIT : ℕ} → SafeSource LIMIT → ℕ → Option (List ℕ)
-left s i = Some (left_of s.inputs i)
-
--- no read fails
-abbrev pub faults : {LIMIT : ℕ} → SafeSource LIMIT → ℕ → ℕ
-faults s i = 0
-
--- how many bytes of an input have been taken
-abbrev pub taken : {LIMIT : ℕ} → SafeSource LIMIT → ℕ → ℕ
-taken s i = taken_of s.inputs i
-
--- whether the last read of an input gave its end
-abbrev pub ended : {LIMIT : ℕ} → SafeSource LIMIT → ℕ → Bool
-ended s i = ended_of s.inputs i
+-- what is told of an input, of which no read fails
+abbrev pub inputs_of : {LIMIT : ℕ} → SafeSource LIMIT → ℕ → Input
+inputs_of s i = told_of s.inputs 0 i
 
 -- how many bytes a read gives at most
 abbrev pub greatest_piece : {LIMIT : ℕ} → SafeSource LIMIT → ℕ

@@ -65,17 +65,16 @@ impl Model for Lines {
 }
 
 impl Lines {
-    ghost use Rattle.std.specs.Prelude.{◌↔◌, ◌+◌, ◌-◌, ◌<◌, ◌≤◌, ◌^◌, ◌⊎◌, [], false, true, IfOk, IsTrue, IsErr, None, Some, length};
-    ghost use Rattle.std.specs.Io.KnownBytes.{Consumes};
+    ghost use Rattle.std.specs.Prelude.{◌↔◌, ◌+◌, ◌<◌, ◌≤◌, ◌^◌, ◌⊎◌, false, true, IfOk, IsTrue, Some, length};
     ghost use Rattle.mc_io.specs.Causes.{Rose};
-    ghost use Rattle.mc_io.specs.Outside.{SameBut, counted};
+    ghost use Rattle.mc_io.specs.Outside.{SameBut};
     ghost use Rattle.mc_io.specs.Lines.{IsLineText, most_bytes};
-    ghost use Rattle.mc_io.specs.LineReader.{MayGoOn, Gives, IsNoStop, ahead, lines_passed};
+    ghost use Rattle.mc_io.specs.LineReader.{MayGoOn, Gives, IsNoStop, Reading, ahead, fresh, lines_passed};
 
     /// A reader of an input, which has read nothing yet.
     pub fn new(alloc: Global, input: u32) -> Result<Lines, NoMemory>
         requires { input < 3 }
-        ensures { IfOk result (λ lines. lines ≡ record { input = input; held = []; taken = 0; ended = false; passed = 0; text = []; answer = None }) }
+        ensures { IfOk result (λ lines. lines ≡ fresh input) }
     {
         Ok(Lines {
             input,
@@ -94,33 +93,22 @@ impl Lines {
     pub fn next<S: Source>(&mut self, source: &mut S) -> LineStep
         requires { MayGoOn self.old.answer }
 
-        ensures step { Gives result (ahead self.old (S.left source.old self.old.input)) (ahead self.new (S.left source.new self.old.input)) self.new.text self.new.passed }
+        ensures step { Gives result (ahead self.old (S.inputs source.old self.old.input).left) (ahead self.new (S.inputs source.new self.old.input).left) self.new.text self.new.passed }
         ensures passed { self.new.passed ≡ self.old.passed + lines_passed result }
         ensures answer { self.new.answer ≡ Some result }
-        ensures input { self.new.input ≡ self.old.input }
         ensures short { result ≡ LineStep.Line → length self.new.text ≤ most_bytes }
         ensures text { result ≡ LineStep.Line → IsLineText self.new.text }
         ensures few_lines { self.new.passed < 2 ^ 64 }
 
-        // What was taken of the input is counted.
-        ensures bytes { (front : List ℕ) × Consumes (S.left source.old self.old.input) (S.left source.new self.old.input) front
-            × (self.new.taken ≡ self.old.taken + length front) }
-        ensures counted { S.taken source.old self.old.input < 2 ^ 128 → S.taken source.new self.old.input ≡ counted (S.taken source.old self.old.input) (self.new.taken - self.old.taken) }
-        ensures few { self.new.taken < 2 ^ 65 }
+        // What was taken of the input, and nothing of the others.
+        ensures reading { Reading self.old self.new (S.inputs source.old self.old.input) (S.inputs source.new self.old.input) }
+        ensures others { SameBut self.old.input (S.inputs source.old) (S.inputs source.new) }
 
         // Each stop has its cause.
-        ensures fault { result ≡ LineStep.ReadFault → Rose (S.faults source.old self.old.input) (S.faults source.new self.old.input) }
+        ensures fault { result ≡ LineStep.ReadFault → Rose (S.inputs source.old self.old.input).faults (S.inputs source.new self.old.input).faults }
         ensures limit { self.old.taken ≤ S.LIMIT → (result ≡ LineStep.InputLimit) ↔ (S.LIMIT < self.new.taken) }
         ensures end { result ≡ LineStep.End → IsTrue self.new.ended }
-        ensures not_ended { (result ≡ LineStep.ReadFault) ⊎ (result ≡ LineStep.InputLimit) → S.ended source.new self.old.input ≡ false }
-        ensures told { (IsTrue self.old.ended → IsTrue (S.ended source.old self.old.input)) → IsTrue self.new.ended → IsTrue (S.ended source.new self.old.input) }
-
-        // Nothing of the other inputs changes.
-        ensures later { S.faults source.old self.old.input ≤ S.faults source.new self.old.input }
-        ensures left_others { SameBut self.old.input (S.left source.old) (S.left source.new) }
-        ensures faults_others { SameBut self.old.input (S.faults source.old) (S.faults source.new) }
-        ensures taken_others { SameBut self.old.input (S.taken source.old) (S.taken source.new) }
-        ensures ended_others { SameBut self.old.input (S.ended source.old) (S.ended source.new) }
+        ensures not_ended { (result ≡ LineStep.ReadFault) ⊎ (result ≡ LineStep.InputLimit) → (S.inputs source.new self.old.input).ended ≡ false }
     {
         if self.ended {
             return self.give();

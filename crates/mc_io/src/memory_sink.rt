@@ -18,7 +18,7 @@ pub struct MemorySink {
 
 impl MemorySink {
     ghost use Rattle.std.specs.Prelude.{ℕ, ◌≡◌, ◌≤◌, ◌<◌, [], Some, IfOk};
-    ghost use Rattle.mc_io.specs.MemorySink.{held, faults, room_left, greatest_piece, failing_calls, calls_made};
+    ghost use Rattle.mc_io.specs.MemorySink.{held, outputs_of, room_left, greatest_piece, failing_calls, calls_made};
 
     /// A sink with room for `room` bytes at each output, which takes at most `piece` bytes at a write, and
     /// fails at the calls whose numbers, from 1, are listed.
@@ -32,7 +32,7 @@ impl MemorySink {
 
         ensures held { IfOk result (λ sink. (o : ℕ) → o < 2 → held sink o ≡ Some []) }
         ensures room { IfOk result (λ sink. (o : ℕ) → o < 2 → room_left sink o ≡ room) }
-        ensures faults { IfOk result (λ sink. faults sink ≡ 0) }
+        ensures faults { IfOk result (λ sink. (outputs_of sink).faults ≡ 0) }
         ensures piece { IfOk result (λ sink. greatest_piece sink ≡ piece) }
         ensures fail { IfOk result (λ sink. failing_calls sink ≡ fail.items) }
         ensures calls { IfOk result (λ sink. calls_made sink ≡ 0) }
@@ -56,28 +56,22 @@ impl MemorySink {
 
 impl Sink for MemorySink {
     ghost use Rattle.std.specs.Prelude.{ℕ, ◌≡◌, ◌<◌, ◌↔◌, ◌+◌, ◌⊎◌, Contains, IfOk, IsErr, is_err, MatchResult, if◌then◌else◌, length};
-    ghost use Rattle.std.specs.Io.KnownBytes.{WriteAppends};
-    ghost use Rattle.mc_io.specs.Causes.{HasCause, one_more};
-    ghost use Rattle.mc_io.specs.Outside.{SameBut, TakesSome};
-    ghost use Rattle.mc_io.specs.MemorySink.{held, faults, room_left, greatest_piece, failing_calls, calls_made, accepted};
+    ghost use Rattle.mc_io.specs.Causes.{one_more};
+    ghost use Rattle.mc_io.specs.Outside.{SameBut, Writes};
+    ghost use Rattle.mc_io.specs.MemorySink.{outputs_of, room_left, greatest_piece, failing_calls, calls_made, accepted};
 
-    ghost held = { held };
-
-    ghost faults = { faults };
+    ghost outputs = { outputs_of };
 
     fn write(&mut self, output: u32, piece: &[u8]) -> Result<usize, Failed>
         requires output { output < 2 }
         requires some { 0 < length piece.now }
 
-        ensures bound { TakesSome result piece.now }
-        ensures bytes { WriteAppends (held self.old output) (held self.new output) result piece.now }
-        ensures cause { HasCause (faults self.old) (faults self.new) result }
-        ensures others { SameBut output (held self.old) (held self.new) }
+        ensures writes { Writes output (outputs_of self.old) (outputs_of self.new) result piece.now }
 
         // It fails exactly at the listed calls and where no room is left, and takes as much as it may at the others.
         ensures fails { IsErr result ↔ (Contains (failing_calls self.old) (calls_made self.old + 1) ⊎ (room_left self.old output ≡ 0)) }
         ensures accepted { IfOk result (λ n. n ≡ accepted self.old output (length piece.now)) }
-        ensures fault { faults self.new ≡ (if is_err result then one_more (faults self.old) else faults self.old) }
+        ensures fault { (outputs_of self.new).faults ≡ (if is_err result then one_more (outputs_of self.old).faults else (outputs_of self.old).faults) }
         ensures room { MatchResult result (λ n. room_left self.new output + n ≡ room_left self.old output)
             (λ _. room_left self.new output ≡ room_left self.old output) }
         ensures room_others { SameBut output (room_left self.old) (room_left self.new) }

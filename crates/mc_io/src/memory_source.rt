@@ -12,19 +12,17 @@ pub struct MemorySource<const LIMIT: u64> {
 }
 
 impl<const LIMIT: u64> MemorySource<LIMIT> {
-    ghost use Rattle.std.specs.Prelude.{ℕ, ◌≡◌, ◌≤◌, false, Some};
+    ghost use Rattle.std.specs.Prelude.{ℕ, ◌≡◌, ◌≤◌, Some};
     ghost use Rattle.mc_io.specs.Inputs.{bytes_at};
-    ghost use Rattle.mc_io.specs.MemorySource.{left, faults, taken, ended, greatest_piece, failing_calls, calls_made};
+    ghost use Rattle.mc_io.specs.Outside.{unread};
+    ghost use Rattle.mc_io.specs.MemorySource.{inputs_of, greatest_piece, failing_calls, calls_made};
 
     /// A source that gives at most `piece` bytes at a read, and fails at the calls whose numbers, from 1,
     /// are listed.
     pub fn new(inputs: Vec<Vec<u8>>, piece: usize, fail: Vec<u64>) -> MemorySource<LIMIT>
         requires { 1 ≤ piece }
 
-        ensures left { (i : ℕ) → left result i ≡ Some (bytes_at inputs.items i) }
-        ensures faults { (i : ℕ) → faults result i ≡ 0 }
-        ensures taken { (i : ℕ) → taken result i ≡ 0 }
-        ensures ended { (i : ℕ) → ended result i ≡ false }
+        ensures inputs { (i : ℕ) → inputs_of result i ≡ unread (Some (bytes_at inputs.items i)) }
         ensures piece { greatest_piece result ≡ piece }
         ensures fail { failing_calls result ≡ fail.items }
         ensures calls { calls_made result ≡ 0 }
@@ -39,21 +37,13 @@ impl<const LIMIT: u64> MemorySource<LIMIT> {
 
 impl<const LIMIT: u64> Source for MemorySource<LIMIT> {
     ghost use Rattle.std.specs.Prelude.{ℕ, ◌≡◌, ◌<◌, ◌↔◌, ◌+◌, Contains, IfOk, IsErr, is_err, if◌then◌else◌, length};
-    ghost use Rattle.std.specs.Io.{ReadsAtMost};
-    ghost use Rattle.std.specs.Io.KnownBytes.{ReadConsumes};
-    ghost use Rattle.mc_io.specs.Causes.{HasCause, one_more};
-    ghost use Rattle.mc_io.specs.Outside.{Counts, EndsAt, SameBut};
-    ghost use Rattle.mc_io.specs.MemorySource.{left, faults, taken, ended, greatest_piece, failing_calls, calls_made, given};
+    ghost use Rattle.mc_io.specs.Causes.{one_more};
+    ghost use Rattle.mc_io.specs.Outside.{Reads, SameBut};
+    ghost use Rattle.mc_io.specs.MemorySource.{inputs_of, greatest_piece, failing_calls, calls_made, given};
 
     ghost LIMIT = { LIMIT };
 
-    ghost left = { left };
-
-    ghost faults = { faults };
-
-    ghost taken = { taken };
-
-    ghost ended = { ended };
+    ghost inputs = { inputs_of };
 
     const LIMIT: u64 = LIMIT;
 
@@ -61,21 +51,14 @@ impl<const LIMIT: u64> Source for MemorySource<LIMIT> {
         requires input { input < 3 }
         requires room { 0 < length into.old }
 
-        ensures bound { ReadsAtMost result into.new }
-        ensures bytes { ReadConsumes (left self.old input) (left self.new input) result into.new }
-        ensures count { Counts (taken self.old input) (taken self.new input) result }
-        ensures end { EndsAt (ended self.new input) result }
-        ensures cause { HasCause (faults self.old input) (faults self.new input) result }
-        ensures left_others { SameBut input (left self.old) (left self.new) }
-        ensures faults_others { SameBut input (faults self.old) (faults self.new) }
-        ensures taken_others { SameBut input (taken self.old) (taken self.new) }
-        ensures ended_others { SameBut input (ended self.old) (ended self.new) }
+        ensures reads { Reads (inputs_of self.old input) (inputs_of self.new input) result into.new }
+        ensures others { SameBut input (inputs_of self.old) (inputs_of self.new) }
 
         // It fails exactly at the listed calls, and gives as much as it may at the others.
         ensures fails { IsErr result ↔ Contains (failing_calls self.old) (calls_made self.old + 1) }
         ensures calls { calls_made self.new ≡ one_more (calls_made self.old) }
         ensures given { IfOk result (λ n. n ≡ given self.old input (length into.old)) }
-        ensures fault { faults self.new input ≡ (if is_err result then one_more (faults self.old input) else faults self.old input) }
+        ensures fault { (inputs_of self.new input).faults ≡ (if is_err result then one_more (inputs_of self.old input).faults else (inputs_of self.old input).faults) }
         ensures fail { failing_calls self.new ≡ failing_calls self.old }
         ensures piece { greatest_piece self.new ≡ greatest_piece self.old }
     {

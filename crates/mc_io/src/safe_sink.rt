@@ -14,9 +14,7 @@ impl SafeSink {
 impl Sink for SafeSink {
     ghost use Rattle.std.specs.Prelude.{◌≡◌, ◌<◌, None, length};
 
-    ghost held = { λ _ _. None };
-
-    ghost faults = { λ _. 0 };
+    ghost outputs = { λ _. record { held = λ _. None; faults = 0 } };
 
     fn write(&mut self, output: u32, piece: &[u8]) -> Result<usize, Failed>
         requires output { output < 2 }

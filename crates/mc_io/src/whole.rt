@@ -1,7 +1,7 @@
-ghost use Rattle.std.specs.Prelude.{◌≡◌, ◌↔◌, ◌+◌, ◌<◌, ◌≤◌, ◌^◌, false, List, ℕ, length, Err, IsTrue, OnOk, OnErr};
-ghost use Rattle.std.specs.Io.KnownBytes.{Consumes, IsAtEnd};
+ghost use Rattle.std.specs.Prelude.{◌≡◌, ◌↔◌, ◌<◌, ◌^◌, false, List, ℕ, length, Err, IsTrue, OnOk, OnErr};
+ghost use Rattle.std.specs.Io.KnownBytes.{IsAtEnd};
 ghost use Rattle.mc_io.specs.Causes.{Rose};
-ghost use Rattle.mc_io.specs.Outside.{SameBut, counted};
+ghost use Rattle.mc_io.specs.Outside.{SameBut, Takes};
 
 use crate::Source;
 use std::alloc::Global;
@@ -31,21 +31,15 @@ pub struct Reading {
 pub fn read_whole<S: Source>(alloc: Global, source: &mut S, input: u32) -> Reading
     requires { input < 3 }
 
-    ensures bytes { (front : List ℕ) × Consumes (S.left source.old input) (S.left source.new input) front
+    ensures bytes { (front : List ℕ) × Takes (S.inputs source.old input) (S.inputs source.new input) front
         × (result.taken ≡ length front) × OnOk result.end (result.bytes.items ≡ front) }
-    ensures counted { S.taken source.old input < 2 ^ 128 → S.taken source.new input ≡ counted (S.taken source.old input) result.taken }
     ensures few { result.taken < 2 ^ 65 }
-    ensures rest { OnOk result.end (IsAtEnd (S.left source.new input)) }
-    ensures ended { OnOk result.end (IsTrue (S.ended source.new input)) }
-    ensures not_ended { OnErr result.end (S.ended source.new input ≡ false) }
-    ensures fault { result.end ≡ Err ReadStop.ReadFault → Rose (S.faults source.old input) (S.faults source.new input) }
+    ensures rest { OnOk result.end (IsAtEnd (S.inputs source.new input).left) }
+    ensures ended { OnOk result.end (IsTrue (S.inputs source.new input).ended) }
+    ensures not_ended { OnErr result.end ((S.inputs source.new input).ended ≡ false) }
+    ensures fault { result.end ≡ Err ReadStop.ReadFault → Rose (S.inputs source.old input).faults (S.inputs source.new input).faults }
     ensures limit { (result.end ≡ Err ReadStop.InputLimit) ↔ (S.LIMIT < result.taken) }
-
-    ensures later { S.faults source.old input ≤ S.faults source.new input }
-    ensures left_others { SameBut input (S.left source.old) (S.left source.new) }
-    ensures faults_others { SameBut input (S.faults source.old) (S.faults source.new) }
-    ensures taken_others { SameBut input (S.taken source.old) (S.taken source.new) }
-    ensures ended_others { SameBut input (S.ended source.old) (S.ended source.new) }
+    ensures others { SameBut input (S.inputs source.old) (S.inputs source.new) }
 {
     let mut bytes: Vec<u8> = Vec::new(alloc);
     let mut buffer = [0u8; BUFFER_SIZE];

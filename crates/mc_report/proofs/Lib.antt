@@ -7,3 +7,4 @@ pub mod OkLines
 pub mod RefusedLines
 pub mod ReportLines
 pub mod SpelledOnce
+pub mod OneLine

@@ -1,5 +1,5 @@
 -- Report lines (this project's own): one for each record.
-use Rattle.std.specs.Prelude.{ℕ, ◌+◌, List, [], ◌∷◌, ◌++◌, codes, decimal}
+use Rattle.std.specs.Prelude.{◌≡◌, ℕ, ◌+◌, ◌==◌, cond, List, [], ◌∷◌, ◌++◌, codes, decimal}
 use Rattle.mc_base.specs.declared.ids.AtomId.{AtomId}
 use Rattle.mc_base.specs.declared.kind.Kind.{Kind}
 use Rattle.mc_base.specs.declared.kind.Kind.TheVariants.{NoPlacement}
@@ -8,6 +8,17 @@ use Rattle.mc_base.specs.Kinds.{kind_name}
 
 abbrev pub line_end : List ℕ
 line_end = 10 ∷ []
+
+-- how many lines end in these bytes
+abbrev pub line_ends : List ℕ → ℕ
+line_ends [] = 0
+line_ends (b ∷ bytes) = cond (b == 10) (1 + line_ends bytes) (line_ends bytes)
+
+-- one line: its end stands behind it, and nowhere before
+pub record IsOneLine (bytes : List ℕ) : Type 0 where
+  pub text : List ℕ
+  pub ends : bytes ≡ text ++ line_end
+  pub one : line_ends text ≡ 0
 
 abbrev pub later_numbers : List AtomId → List ℕ
 later_numbers [] = []

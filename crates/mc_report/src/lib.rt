@@ -6,6 +6,6 @@ mod put;
 mod read;
 mod report_line;
 
-pub use put::{put_ok, put_refused};
+pub use put::{one_line_law, put_ok, put_refused};
 pub use read::{read_back_law, read_line};
 pub use report_line::ReportLine;

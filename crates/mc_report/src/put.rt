@@ -1,5 +1,7 @@
-ghost use Rattle.std.specs.Prelude.{◌≡◌, ◌++◌, [], ◌+◌, ◌-◌, ◌^◌, ◌<◌, ◌≤◌, All, IfOk, OnOk, OnErr, codes, decimal};
-ghost use Rattle.mc_report.specs.Report.{numbers, later_numbers, ok_line, reason, refused_line};
+ghost use Rattle.std.specs.Prelude.{◌≡◌, ◌++◌, [], ◌+◌, ◌-◌, ◌^◌, ◌<◌, ◌≤◌, ℕ, List, All, IfOk, OnOk, OnErr, codes, decimal};
+ghost use Rattle.mc_base.specs.declared.ids.AtomId.{AtomId as Atom};
+ghost use Rattle.mc_base.specs.declared.refusal.Refusal.{Refusal as RefusalValue};
+ghost use Rattle.mc_report.specs.Report.{IsOneLine, numbers, later_numbers, ok_line, reason, refused_line};
 
 use mc_base::{AtomId, Kind, NoMemory, Refusal, Text};
 use mc_digits::put_number;
@@ -136,3 +138,10 @@ pub fn put_refused(alloc: Global, out: &mut Text, k: u64, refusal: &Refusal) -> 
     let line = refused_line(alloc, k, refusal)?;
     put_line(out, line)
 }
+
+/// What is put for a record is one line, whatever it says.
+#[tactic(auto, using(crate::proofs::OneLine::ok_one_line, crate::proofs::OneLine::refused_one_line))]
+pub fn one_line_law()
+    ensures ok { (k idle ring lines : ℕ) (map : List Atom) → IsOneLine (ok_line k map idle ring lines) }
+    ensures refused { (k : ℕ) (refusal : RefusalValue) → IsOneLine (refused_line k refusal) }
+{}

@@ -1,27 +1,16 @@
 -- What is known of the inputs of a process (this project's own).
 use Rattle.std.specs.Io.KnownBytes.{ReadConsumes}
-use Rattle.std.specs.Prelude.{ℕ, Bool, false, List, Option, None, Some, Result, ⊤, get_or, slice_get}
-use Rattle.molconv.specs.declared.reads.Reads.{Reads}
-
--- how an input is before its first read
-abbrev pub unread : Reads
-unread = record { taken = 0; ended = false; faults = 0 }
+use Rattle.std.specs.Prelude.{ℕ, false, List, Option, None, Some, Result, ⊤, get_or, slice_get}
+use Rattle.mc_io.specs.Outside.{Input}
+use Rattle.molconv.specs.declared.reads.ReadCounts.{ReadCounts}
 
 -- what is known of the reads of an input
-abbrev pub reads_at : List Reads → ℕ → Reads
-reads_at inputs i = get_or inputs i unread
+abbrev pub reads_at : List ReadCounts → ℕ → ReadCounts
+reads_at inputs i = get_or inputs i record { taken = 0; ended = false; faults = 0 }
 
--- how many bytes of an input have been taken
-abbrev pub taken_of : List Reads → ℕ → ℕ
-taken_of inputs i = (reads_at inputs i).taken
-
--- whether the last read of an input gave its end
-abbrev pub ended_of : List Reads → ℕ → Bool
-ended_of inputs i = (reads_at inputs i).ended
-
--- how often reads of an input have failed
-abbrev pub faults_of : List Reads → ℕ → ℕ
-faults_of inputs i = (reads_at inputs i).faults
+-- what is told of an input: nobody tells what is left of it
+abbrev pub input_of : List ReadCounts → ℕ → Input
+input_of inputs i = record { left = None; faults = (reads_at inputs i).faults; taken = (reads_at inputs i).taken; ended = (reads_at inputs i).ended }
 
 -- what a file has left, which nobody knows before it is opened
 abbrev pub left_in : {F : Type 0} → (F → Option (List ℕ)) → Option F → Option (List ℕ)

@@ -1,6 +1,5 @@
-ghost use Rattle.std.specs.Prelude.{IfOk, take};
+ghost use Rattle.std.specs.Prelude.{◌<◌, ◌≤◌, IfOk, length, take};
 ghost use Rattle.std.specs.Io.KnownBytes.{Appends};
-ghost use Rattle.mc_io.specs.Outside.{TakesSome};
 
 use mc_base::Failed;
 use mc_io::Sink;
@@ -18,9 +17,10 @@ pub struct FileSink<O: Write, E: Write> {
 impl<O: Write, E: Write> FileSink<O, E> {
     ghost use Rattle.std.specs.Prelude.{◌≡◌};
 
-    /// No write has failed.
+    /// No write has failed, and nothing has been written.
     pub fn new(standard_output: O, standard_error: E) -> FileSink<O, E>
-        ensures { result.faults ≡ 0 }
+        ensures faults { result.faults ≡ 0 }
+        ensures streams { (result.standard_output ≡ standard_output) × (result.standard_error ≡ standard_error) }
     {
         FileSink {
             standard_output,
@@ -31,21 +31,19 @@ impl<O: Write, E: Write> FileSink<O, E> {
 }
 
 impl<O: Write, E: Write> Sink for FileSink<O, E> {
-    ghost use Rattle.std.specs.Prelude.{◌≡◌, ◌<◌, None, IfOk, is_err, if◌then◌else◌, length, take};
+    ghost use Rattle.std.specs.Prelude.{◌≡◌, ◌<◌, IfOk, is_err, if◌then◌else◌, length, take};
     ghost use Rattle.std.specs.Io.KnownBytes.{Appends};
-    ghost use Rattle.mc_io.specs.Causes.{HasCause, one_more};
-    ghost use Rattle.mc_io.specs.Outside.{TakesSome};
+    ghost use Rattle.mc_io.specs.Causes.{one_more};
+    ghost use Rattle.mc_io.specs.Outside.{Writes};
+    ghost use Rattle.molconv.specs.Outputs.{outputs_of};
 
-    ghost held = { λ _ _. None };
-
-    ghost faults = { λ s. s.faults };
+    ghost outputs = { λ s. outputs_of s.faults };
 
     fn write(&mut self, output: u32, piece: &[u8]) -> Result<usize, Failed>
         requires output { output < 2 }
         requires some { 0 < length piece.now }
 
-        ensures bound { TakesSome result piece.now }
-        ensures cause { HasCause self.old.faults self.new.faults result }
+        ensures writes { Writes output (outputs_of self.old.faults) (outputs_of self.new.faults) result piece.now }
 
         // What a write takes is passed on to its stream, and nothing to the other.
         ensures to_output { output ≡ 0 → IfOk result (λ n. Appends (O.contents self.old.standard_output) (O.contents self.new.standard_output) (take n piece.now)) }
@@ -70,7 +68,8 @@ impl<O: Write, E: Write> Sink for FileSink<O, E> {
 
 /// Writes some of a piece, and flushes.
 fn write_through<W: Write>(writer: &mut W, piece: &[u8]) -> Result<usize, Failed>
-    ensures bound { TakesSome result piece.now }
+    ensures some { IfOk result (λ n. 0 < n) }
+    ensures within { IfOk result (λ n. n ≤ length piece.now) }
     ensures passed { IfOk result (λ n. Appends (W.contents writer.old) (W.contents writer.new) (take n piece.now)) }
 {
     match writer.write(piece) {

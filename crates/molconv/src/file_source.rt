@@ -4,7 +4,7 @@ ghost use Rattle.std.specs.Io.KnownBytes.{ReadConsumes};
 ghost use Rattle.mc_io.specs.Outside.{SameBut};
 ghost use Rattle.molconv.specs.Inputs.{ReadsFile};
 
-use crate::reads::Reads;
+use crate::reads::ReadCounts;
 use mc_base::Failed;
 use mc_io::Source;
 use std::io;
@@ -16,22 +16,23 @@ use std::io::Read;
 pub struct FileSource<R: Read, N: Read + Drop> {
     standard_input: R,
     files: Vec<N>,
-    inputs: [Reads; 3],
+    inputs: [ReadCounts; 3],
 }
 
-const UNREAD: Reads = Reads {
+const UNREAD: ReadCounts = ReadCounts {
     taken: 0,
     ended: false,
     faults: 0,
 };
 
 impl<R: Read, N: Read + Drop> FileSource<R, N> {
-    ghost use Rattle.std.specs.Prelude.{ℕ, ◌≡◌};
-    ghost use Rattle.molconv.specs.Inputs.{unread, reads_at};
+    ghost use Rattle.std.specs.Prelude.{ℕ, ◌≡◌, None};
+    ghost use Rattle.mc_io.specs.Outside.{unread};
+    ghost use Rattle.molconv.specs.Inputs.{input_of};
 
     /// No input has been read.
     pub fn new(standard_input: R, files: Vec<N>) -> FileSource<R, N>
-        ensures reads { (i : ℕ) → reads_at result.inputs i ≡ unread }
+        ensures inputs { (i : ℕ) → input_of result.inputs i ≡ unread None }
         ensures streams { (result.standard_input ≡ standard_input) × (result.files ≡ files) }
     {
         FileSource {
@@ -43,22 +44,15 @@ impl<R: Read, N: Read + Drop> FileSource<R, N> {
 }
 
 impl<R: Read, N: Read + Drop> Source for FileSource<R, N> {
-    ghost use Rattle.std.specs.Prelude.{ℕ, ◌≡◌, ◌≢◌, ◌⊎◌, ◌<◌, ◌≤◌, ◌^◌, [], None, Ok, is_err, if◌then◌else◌, length, slice_get};
-    ghost use Rattle.std.specs.Io.{ReadsAtMost};
+    ghost use Rattle.std.specs.Prelude.{ℕ, ◌≡◌, ◌≢◌, ◌⊎◌, ◌<◌, ◌≤◌, ◌^◌, [], Ok, is_err, if◌then◌else◌, length, slice_get};
     ghost use Rattle.std.specs.Io.KnownBytes.{ReadConsumes};
-    ghost use Rattle.mc_io.specs.Causes.{HasCause, one_more};
-    ghost use Rattle.mc_io.specs.Outside.{Counts, EndsAt, SameBut};
-    ghost use Rattle.molconv.specs.Inputs.{faults_of, taken_of, ended_of, ReadsFile};
+    ghost use Rattle.mc_io.specs.Causes.{one_more};
+    ghost use Rattle.mc_io.specs.Outside.{Reads, SameBut};
+    ghost use Rattle.molconv.specs.Inputs.{input_of, ReadsFile};
 
     ghost LIMIT = { 2 ^ 40 };
 
-    ghost left = { λ _ _. None };
-
-    ghost faults = { λ s. faults_of s.inputs };
-
-    ghost taken = { λ s. taken_of s.inputs };
-
-    ghost ended = { λ s. ended_of s.inputs };
+    ghost inputs = { λ s. input_of s.inputs };
 
     const LIMIT: u64 = 1 << 40;
 
@@ -66,13 +60,8 @@ impl<R: Read, N: Read + Drop> Source for FileSource<R, N> {
         requires input { input < 3 }
         requires room { 0 < length into.old }
 
-        ensures bound { ReadsAtMost result into.new }
-        ensures count { Counts (taken_of self.old.inputs input) (taken_of self.new.inputs input) result }
-        ensures end { EndsAt (ended_of self.new.inputs input) result }
-        ensures cause { HasCause (faults_of self.old.inputs input) (faults_of self.new.inputs input) result }
-        ensures faults_others { SameBut input (faults_of self.old.inputs) (faults_of self.new.inputs) }
-        ensures taken_others { SameBut input (taken_of self.old.inputs) (taken_of self.new.inputs) }
-        ensures ended_others { SameBut input (ended_of self.old.inputs) (ended_of self.new.inputs) }
+        ensures reads { Reads (input_of self.old.inputs input) (input_of self.new.inputs input) result into.new }
+        ensures others { SameBut input (input_of self.old.inputs) (input_of self.new.inputs) }
 
         // An input with a name takes what its own file gives, and touches no other.
         ensures named { ReadsFile N.remaining self.old.files.items self.new.files.items input result into.new }
@@ -85,8 +74,8 @@ impl<R: Read, N: Read + Drop> Source for FileSource<R, N> {
         ensures other { length self.old.files.items ≤ input → input ≢ 0 → result ≡ Ok 0 }
 
         // Each failure counts, and nothing else does.
-        ensures fault { faults_of self.new.inputs input
-            ≡ (if is_err result then one_more (faults_of self.old.inputs input) else faults_of self.old.inputs input) }
+        ensures fault { (input_of self.new.inputs input).faults
+            ≡ (if is_err result then one_more (input_of self.old.inputs input).faults else (input_of self.old.inputs input).faults) }
     {
         let read = read_stream(
             &mut self.standard_input,

@@ -1,4 +1,5 @@
-ghost use Rattle.std.specs.Prelude.{◌≡◌, IfOk, map};
+ghost use Rattle.std.specs.Prelude.{◌≡◌, IfOk, is_none, map, true};
+ghost use Rattle.std.specs.List.{list_all};
 
 use mc_base::{NoMemory, Text};
 use mc_convert::NameList;
@@ -48,12 +49,14 @@ fn open<F: Files>(files: &F, name: &Text) -> io::Result<F::File> {
 }
 
 /// The files of these names, in order, none of them opened.
+#[tactic(auto, using(crate::proofs::Files::all_push))]
 pub fn named_files<'a, F: Files>(
     alloc: Global,
     files: &'a F,
     names: &NameList,
 ) -> Result<Vec<NamedFile<'a, F>>, NoMemory>
-    ensures { IfOk result (λ named. map (λ file. file.name) named.items ≡ names.now) }
+    ensures names { IfOk result (λ named. map (λ file. file.name) named.items ≡ names.now) }
+    ensures unopened { IfOk result (λ named. list_all (λ file. is_none file.file) named.items ≡ true) }
 {
     let mut named = Vec::new(alloc);
     for name in names.as_slice() {

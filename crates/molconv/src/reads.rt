@@ -1,6 +1,6 @@
 /// What is known of the reads of an input.
 #[derive(Clone, Copy)]
-pub struct Reads {
+pub struct ReadCounts {
     /// how many bytes have been taken
     pub taken: u128,
     /// whether the last read gave the end

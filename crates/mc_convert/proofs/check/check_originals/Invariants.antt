@@ -1,7 +1,5 @@
 use Rattle.std.proofs.Common.{◌≤◌, ◌<◌, ◌^◌, ◌-◌}
 use Rattle.mc_io.specs.LineReader.{ahead}
-use Rattle.mc_convert.specs.Readers.{told}
-use Rattle.mc_convert.specs.Runs.{held_by}
 use Rattle.mc_convert.specs.CheckSteps.{Advance, MayRead}
 use Rattle.mc_convert.specs.CheckRuns.{Written}
 use Rattle.mc_convert.proofs.Checking.{Progress}
@@ -13,12 +11,12 @@ invariant-loop-original g l = record {
   numbered : l.number ≤ l.readers.originals.passed;
   few : l.readers.originals.passed < 2 ^ 64;
   advance : Advance l.initial.readers l.readers
-      (told (g.S.Source.left l.initial.source) (g.S.Source.faults l.initial.source) (g.S.Source.taken l.initial.source) (g.S.Source.ended l.initial.source))
-      (told (g.S.Source.left l.source) (g.S.Source.faults l.source) (g.S.Source.taken l.source) (g.S.Source.ended l.source));
-  written : Written (held_by (g.K.Sink.held l.initial.sink) (g.K.Sink.faults l.initial.sink)) (held_by (g.K.Sink.held l.sink) (g.K.Sink.faults l.sink));
-  progress : Progress l.number l.all_true (g.S.Source.left l.initial.source 0) (g.S.Source.left l.initial.source 1) (g.S.Source.left l.initial.source 2)
-      (ahead l.readers.originals (g.S.Source.left l.source 0)) (ahead l.readers.converted (g.S.Source.left l.source 1)) (ahead l.readers.report (g.S.Source.left l.source 2))
-      (held_by (g.K.Sink.held l.initial.sink) (g.K.Sink.faults l.initial.sink)) (held_by (g.K.Sink.held l.sink) (g.K.Sink.faults l.sink)) l.lines;
+      (g.S.Source.inputs l.initial.source)
+      (g.S.Source.inputs l.source);
+  written : Written (g.K.Sink.outputs l.initial.sink) (g.K.Sink.outputs l.sink);
+  progress : Progress l.number l.all_true (g.S.Source.inputs l.initial.source 0).left (g.S.Source.inputs l.initial.source 1).left (g.S.Source.inputs l.initial.source 2).left
+      (ahead l.readers.originals (g.S.Source.inputs l.source 0).left) (ahead l.readers.converted (g.S.Source.inputs l.source 1).left) (ahead l.readers.report (g.S.Source.inputs l.source 2).left)
+      (g.K.Sink.outputs l.initial.sink) (g.K.Sink.outputs l.sink) l.lines;
 }
 
 abbrev pub decreases-loop-original : goal.decreases-loop-original

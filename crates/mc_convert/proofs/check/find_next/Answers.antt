@@ -2,6 +2,7 @@ use Rattle.std.proofs.Common.{◌∙◌, ap, subst, List, Option, Some, arith}
 use Rattle.mc_base.specs.declared.ids.AtomId.{AtomId}
 use Rattle.mc_report.specs.declared.report_line.ReportLine.{ReportLine}
 use Rattle.mc_io.specs.LineReader.{ahead}
+use Rattle.mc_io.specs.Outside.{Input}
 use Rattle.mc_convert.specs.Findings.{IsMapFinding}
 use Rattle.mc_convert.specs.CheckSteps.{SaidNext}
 use Rattle.mc_convert.proofs.CheckFound.{written_between, refused_found}
@@ -10,17 +11,17 @@ use Rattle.mc_convert.proofs.check.find_next.Goals as goal
 
 pub returns-in-Ok-map_finding-clause-finds : goal.returns-in-Ok-map_finding-clause-finds
 returns-in-Ok-map_finding-clause-finds g c given is =
-    let said = subst (λ (x : Option ReportLine). SaidNext c.args.k (ahead c.args.readers.now.report (g.S.Source.left c.args.source.now 2)) (ahead c.read_said.new.self.report (g.S.Source.left c.read_said.new.source 2)) x)
+    let said = subst (λ (x : Option ReportLine). SaidNext c.args.k (ahead c.args.readers.now.report (g.S.Source.inputs c.args.source.now 2).left) (ahead c.read_said.new.self.report (g.S.Source.inputs c.read_said.new.source 2).left) x)
     (c.in-Ok-Some-Ok.field-0-is ∙ ap (λ (x : ReportLine). Some x) c.in-Ok-Some-Ok.field-0-0-is) c.in-Ok-Some-Ok.ensures.says in
     written_between c.args.k c.in-Ok-Some-Ok.field-0-0-0 given _ _ _ _ _ _ c.in-Ok-Some-Ok.map _ c.in-Ok-map_finding.finding said c.in-Ok.ensures.reads
     (λ next reads. subst (λ (m : List AtomId). IsMapFinding given next m c.in-Ok-map_finding.finding) c.as_slice.ensures (c.in-Ok-map_finding.ensures given next is reads))
-    (ahead_kept c.args.readers.now.converted c.read_said.new.self.converted _ _ c.in-Ok-Some-Ok.ensures.kept.1 (c.in-Ok-Some-Ok.ensures.others 1 (λ e. omega arith)))
-    (ahead_kept c.read_said.new.self.report c.read_converted.new.self.report _ _ c.in-Ok.ensures.kept.1 (c.in-Ok.ensures.others 2 (λ e. omega arith)))
+    (ahead_kept c.args.readers.now.converted c.read_said.new.self.converted _ _ c.in-Ok-Some-Ok.ensures.kept.1 (ap (λ (i : Input). i.left) (c.in-Ok-Some-Ok.ensures.others 1 (λ e. omega arith))))
+    (ahead_kept c.read_said.new.self.report c.read_converted.new.self.report _ _ c.in-Ok.ensures.kept.1 (ap (λ (i : Input). i.left) (c.in-Ok.ensures.others 2 (λ e. omega arith))))
 
 pub returns-in-Ok-Some-Refused-clause-finds : goal.returns-in-Ok-Some-Refused-clause-finds
 returns-in-Ok-Some-Refused-clause-finds g c given is =
-    let said = subst (λ (x : Option ReportLine). SaidNext c.args.k (ahead c.args.readers.now.report (g.S.Source.left c.args.source.now 2)) (ahead c.read_said.new.self.report (g.S.Source.left c.read_said.new.source 2)) x)
+    let said = subst (λ (x : Option ReportLine). SaidNext c.args.k (ahead c.args.readers.now.report (g.S.Source.inputs c.args.source.now 2).left) (ahead c.read_said.new.self.report (g.S.Source.inputs c.read_said.new.source 2).left) x)
     (c.in-Ok-Some-Refused.field-0-is ∙ ap (λ (x : ReportLine). Some x) c.in-Ok-Some-Refused.field-0-0-is) c.in-Ok-Some-Refused.ensures.says in
     refused_found c.args.k c.in-Ok-Some-Refused.field-0-0-0 given _ _ _ _ c.in-Ok-Some-Refused.refusal c.refusal_finding.result said
-    (ahead_kept c.args.readers.now.converted c.read_said.new.self.converted _ _ c.in-Ok-Some-Refused.ensures.kept.1 (c.in-Ok-Some-Refused.ensures.others 1 (λ e. omega arith)))
+    (ahead_kept c.args.readers.now.converted c.read_said.new.self.converted _ _ c.in-Ok-Some-Refused.ensures.kept.1 (ap (λ (i : Input). i.left) (c.in-Ok-Some-Refused.ensures.others 1 (λ e. omega arith))))
     (c.refusal_finding.ensures given is)

@@ -1,8 +1,6 @@
 use Rattle.std.proofs.Common.{◌≡◌, ◌≤◌, ◌<◌, ◌^◌, ◌-◌}
 use Rattle.mc_io.specs.Outside.{SameBut}
-use Rattle.mc_io.specs.LineReader.{MayGoOn, ahead}
-use Rattle.mc_convert.specs.Readers.{told, fresh, Reading}
-use Rattle.mc_convert.specs.Runs.{held_by}
+use Rattle.mc_io.specs.LineReader.{MayGoOn, ahead, Reading, fresh}
 use Rattle.mc_convert.proofs.Running.{Progress}
 use Rattle.mc_convert.proofs.convert.answer_all.Given as goal
 
@@ -14,14 +12,14 @@ invariant-loop-next g l = record {
   numbered : l.number ≤ l.lines.passed;
   few : l.lines.passed < 2 ^ 64;
   reading : Reading (fresh 0) l.lines
-      (told (g.S.Source.left l.initial.source) (g.S.Source.faults l.initial.source) (g.S.Source.taken l.initial.source) (g.S.Source.ended l.initial.source) 0)
-      (told (g.S.Source.left l.source) (g.S.Source.faults l.source) (g.S.Source.taken l.source) (g.S.Source.ended l.source) 0);
+      (g.S.Source.inputs l.initial.source 0)
+      (g.S.Source.inputs l.source 0);
   others : SameBut 0
-      (told (g.S.Source.left l.initial.source) (g.S.Source.faults l.initial.source) (g.S.Source.taken l.initial.source) (g.S.Source.ended l.initial.source))
-      (told (g.S.Source.left l.source) (g.S.Source.faults l.source) (g.S.Source.taken l.source) (g.S.Source.ended l.source));
-  later : g.K.Sink.faults l.initial.sink ≤ g.K.Sink.faults l.sink;
-  progress : Progress l.number l.some_refused (g.S.Source.left l.initial.source 0) (ahead l.lines (g.S.Source.left l.source 0))
-      (held_by (g.K.Sink.held l.initial.sink) (g.K.Sink.faults l.initial.sink)) (held_by (g.K.Sink.held l.sink) (g.K.Sink.faults l.sink));
+      (g.S.Source.inputs l.initial.source)
+      (g.S.Source.inputs l.source);
+  later : (g.K.Sink.outputs l.initial.sink).faults ≤ (g.K.Sink.outputs l.sink).faults;
+  progress : Progress l.number l.some_refused (g.S.Source.inputs l.initial.source 0).left (ahead l.lines (g.S.Source.inputs l.source 0).left)
+      (g.K.Sink.outputs l.initial.sink) (g.K.Sink.outputs l.sink);
 }
 
 abbrev pub decreases-loop-next : goal.decreases-loop-next

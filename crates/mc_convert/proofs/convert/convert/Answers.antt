@@ -1,11 +1,9 @@
-use Rattle.mc_convert.specs.Readers.{told}
-use Rattle.mc_convert.specs.Runs.{held_by}
-use Rattle.mc_convert.proofs.Running.{only_memory}
+use Rattle.mc_convert.proofs.Limits.{taken_status}
+use Rattle.mc_convert.proofs.Promised.{converts_stopped}
 use Rattle.mc_convert.proofs.convert.convert.Goals as goal
 
-pub returns-in-Err-clause-exactly : goal.returns-in-Err-clause-exactly
-returns-in-Err-clause-exactly g c = λ ended all. rw c.status.ensures (only_memory c.in-Err.halt
-    (told (g.S.Source.left c.args.source.now) (g.S.Source.faults c.args.source.now) (g.S.Source.taken c.args.source.now) (g.S.Source.ended c.args.source.now) 0)
-    (told (g.S.Source.left c.answer_all.new.source) (g.S.Source.faults c.answer_all.new.source) (g.S.Source.taken c.answer_all.new.source) (g.S.Source.ended c.answer_all.new.source) 0)
-    (held_by (g.K.Sink.held c.args.sink.now) (g.K.Sink.faults c.args.sink.now)) (held_by (g.K.Sink.held c.answer_all.new.sink) (g.K.Sink.faults c.answer_all.new.sink))
-    c.in-Err.ensures.ran.1 ended all)
+pub returns-in-Err : goal.returns-in-Err
+returns-in-Err g c =
+    let ran = c.in-Err.ensures in
+    rw c.status.ensures (converts_stopped g.S.Source.LIMIT c.in-Err.halt (g.S.Source.inputs c.args.source.now) (g.S.Source.inputs c.answer_all.new.source) (g.K.Sink.outputs c.args.sink.now) (g.K.Sink.outputs c.answer_all.new.sink)
+    ran.ran.0 ran.ran.1 (taken_status 1 g.S.Source.LIMIT c.in-Err.halt (g.S.Source.inputs c.args.source.now) (g.S.Source.inputs c.answer_all.new.source) ran.taken) ran.later_read ran.later_written ran.others)

@@ -1,6 +1,7 @@
 //! The words of each command, with no file and with some.
 
-use crate::{Command, command_of, input_names};
+use crate::tests::{CHECK, CONVERT, gives, words_of};
+use crate::{Command, Status, command_of, input_names};
 use std::process::Abort;
 use std::test::Fail;
 
@@ -12,10 +13,7 @@ fn are(
     files: &[&str],
 ) -> Result<(), Fail> {
     let alloc = rt.alloc();
-    let mut words = Vec::new(alloc);
-    for text in texts {
-        words.push(String::from_str(alloc, text)?)?;
-    }
+    let words = words_of(alloc, texts)?;
     assert!(rt; command_of(&words) == command);
     let names = input_names(alloc, &words)?;
     assert_eq!(rt; names.len(), files.len());
@@ -137,4 +135,13 @@ fn words_stand_in_one_order(rt: HostRuntime) -> Result<(), Fail> {
     are_none(&rt, &["convert", "--from", "smi", "a", "--to", "smi"])?;
     are_none(&rt, &["a", "convert", "--from", "smi", "--to", "smi"])?;
     are_none(&rt, &["convert", "--from=smi", "--to=smi"])
+}
+
+// The input of one atom stays as it is, and so do the outputs.
+#[test]
+fn other_words_do_nothing(rt: HostRuntime) -> Result<(), Fail> {
+    let none: [&str; 1] = ["--help"];
+    gives(&rt, &none, &[b"C"], Status::Usage, b"", b"")?;
+    gives(&rt, &CONVERT[..3], &[b"C"], Status::Usage, b"", b"")?;
+    gives(&rt, &CHECK[..7], &[b"C"], Status::Usage, b"", b"")
 }

@@ -1,22 +1,10 @@
 //! Every text of a few tokens: what is converted is said to be true by a check, and stays as it is when it is converted again.
 
-use crate::tests::{CONVERT, words_of};
-use crate::{Status, run};
-use mc_io::{MemorySink, MemorySource};
+use crate::Status;
+use crate::tests::{CHECK, CONVERT, Calls, ran};
 use std::alloc::Global;
 use std::process::Abort;
 use std::test::Fail;
-
-const CHECK: [&str; 8] = [
-    "check",
-    "--from",
-    "smi",
-    "--to",
-    "smi",
-    "original",
-    "converted",
-    "report",
-];
 
 const TOKENS: [&[u8]; 8] = [b"C", b"N", b"[O-]", b"(", b")", b"1", b"=", b"."];
 
@@ -39,18 +27,20 @@ fn add_texts(texts: &mut Vec<u8>, tokens: u32, count: u32) -> Result<(), Fail> {
     Ok(())
 }
 
-/// Runs these words over three inputs, and gives both outputs.
+/// Runs these words over these inputs, and gives both outputs.
 fn outputs(
     rt: &(impl Abort + AllocGlobal),
-    texts: &[&str],
-    inputs: Vec<Vec<u8>>,
+    words: &[&str],
+    inputs: &[&[u8]],
     status: Status,
 ) -> Result<(Vec<u8>, Vec<u8>), Fail> {
     let alloc = rt.alloc();
-    let words = words_of(alloc, texts)?;
-    let mut source: MemorySource<10000000> = MemorySource::new(inputs, 4096, Vec::new(alloc));
-    let mut sink = MemorySink::new(alloc, 1000000, 100, Vec::new(alloc))?;
-    let answer = run(alloc, &words, &mut source, &mut sink);
+    let calls = Calls {
+        piece: 4096,
+        failing_reads: Vec::new(alloc),
+        failing_writes: Vec::new(alloc),
+    };
+    let (answer, sink) = ran(alloc, words, inputs, calls)?;
     assert!(rt; answer == status);
     Ok((sink.bytes(0).to_vec(alloc)?, sink.bytes(1).to_vec(alloc)?))
 }
@@ -62,22 +52,10 @@ fn each_answer_is_true(rt: HostRuntime) -> Result<(), Fail> {
     for (tokens, count) in [(1, 8), (2, 64), (3, 512), (4, 4096)] {
         add_texts(&mut texts, tokens, count)?;
     }
-    let (written, report) = outputs(
-        &rt,
-        &CONVERT,
-        vec![in alloc; texts.to_vec(alloc)?]?,
-        Status::SomeRefused,
-    )?;
+    let (written, report) = outputs(&rt, &CONVERT, &[&texts], Status::SomeRefused)?;
     // each verdict is true, and nothing is extra
-    let again = written.to_vec(alloc)?;
-    let _verdicts = outputs(
-        &rt,
-        &CHECK,
-        vec![in alloc; texts, again, report]?,
-        Status::Done,
-    )?;
-    let once_more = written.to_vec(alloc)?;
-    let (twice, _report) = outputs(&rt, &CONVERT, vec![in alloc; once_more]?, Status::Done)?;
+    let _verdicts = outputs(&rt, &CHECK, &[&texts, &written, &report], Status::Done)?;
+    let (twice, _report) = outputs(&rt, &CONVERT, &[&written], Status::Done)?;
     assert!(&rt; twice == written);
     Ok(())
 }
