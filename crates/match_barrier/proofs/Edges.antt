@@ -54,7 +54,7 @@ same_bools true b there back = sym (there refl)
 same_bools false true there back = back refl
 same_bools false false there back = refl
 
-no_repeats_push : (xs : List ℕ) (y : ℕ) → NoRepeats xs → has xs y ≡ false → NoRepeats (xs ++ y ∷ [])
+pub no_repeats_push : (xs : List ℕ) (y : ℕ) → NoRepeats xs → has xs y ≡ false → NoRepeats (xs ++ y ∷ [])
 no_repeats_push [] y none new = (refl, tt)
 no_repeats_push (x ∷ xs) y none new = (
   not_true_false (has (xs ++ y ∷ []) x) (λ h. elim (has_push_cases xs y x h) [

@@ -27,7 +27,7 @@ above_lowered n labels root w long less lower =
     ]))
 
 -- Where one number below n does not pass, fewer than n pass.
-count_less : (n : ℕ) (p : ℕ → Bool) (w : ℕ) → w < n → p w ≡ false → count n p < n
+pub count_less : (n : ℕ) (p : ℕ → Bool) (w : ℕ) → w < n → p w ≡ false → count n p < n
 count_less zero p w less fails = absurd (omega arith)
 count_less (suc n) p w less fails = elim (cases_eq w n) [
   | inl e ↦

@@ -1,1 +1,2 @@
 pub mod AllKinds
+pub mod Digits

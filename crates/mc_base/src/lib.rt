@@ -3,6 +3,7 @@
 #![tactic(auto)]
 
 mod atom_list;
+mod digit;
 mod errors;
 mod ids;
 mod kind;
@@ -13,6 +14,7 @@ mod verdict;
 mod written;
 
 pub use atom_list::AtomList;
+pub use digit::starts_digit;
 pub use errors::{Failed, NoMemory};
 pub use ids::{AtomId, BondId};
 pub use kind::{Kind, order_law};

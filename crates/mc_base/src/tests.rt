@@ -1,4 +1,4 @@
-use crate::{AtomId, AtomList, Kind, Refusal, Text};
+use crate::{AtomId, AtomList, Kind, Refusal, Text, starts_digit};
 use std::process::Abort;
 use std::test::Fail;
 
@@ -28,5 +28,15 @@ fn kinds_are_named(rt: HostRuntime) -> Result<(), Fail> {
     assert!(rt; Kind::LineTooLong.number() == 1);
     assert!(rt; Kind::BadOrder.number() == 20);
     assert!(rt; Kind::Name.number() == 46);
+    Ok(())
+}
+
+#[test]
+fn a_digit_stands_at_the_front(rt: HostRuntime) -> Result<(), Fail> {
+    assert!(rt; starts_digit(b"0"));
+    assert!(rt; starts_digit(b"9C"));
+    assert!(rt; !starts_digit(b"/"));
+    assert!(rt; !starts_digit(b":1"));
+    assert!(rt; !starts_digit(b""));
     Ok(())
 }

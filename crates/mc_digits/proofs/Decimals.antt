@@ -1,11 +1,3 @@
--- Numbers of one and of two digits.
-use Rattle.std.proofs.Common.{◌≡◌, ◌<◌, ◌≤◌, ◌+◌, ◌/◌, ◌%◌, ℕ, [], ◌∷◌}
-use Rattle.std.specs.Prelude.{decimal}
-use Rattle.std.proofs.lemmas.Fmt.{decimal_digit}
-use Rattle.itoa.proofs.Decimal.{decimal_two}
-
-pub one_digit : (n : ℕ) → n < 10 → decimal n ≡ (48 + n) ∷ []
-one_digit n small = decimal_digit n small
-
-pub two_digits : (n : ℕ) → 10 ≤ n → n < 100 → decimal n ≡ (48 + n / 10) ∷ (48 + n % 10) ∷ []
-two_digits n some small = decimal_two n some small
+-- Numbers of one and of two digits, for the search.
+pub use Rattle.std.proofs.lemmas.Fmt.{decimal_digit}
+pub use Rattle.itoa.proofs.Decimal.{decimal_two}

@@ -1,26 +1,17 @@
 -- What a reader of fields finds is what the grammar says.
 use Rattle.std.proofs.Common.{arith, ◌≡◌, ◌<◌, ◌≤◌, ◌+◌, ◌-◌, ◌*◌, ◌==◌, ◌&&◌, ◌||◌, ◌⊎◌, ℕ, suc, Bool, true, false, List, [], ◌∷◌, ◌++◌, length, Option, Some, None, refl, sym, ap, subst, ◌∙◌, inl, inr, if◌then◌else◌, nat_lt}
-use Rattle.std.proofs.lemmas.Bool.{cases_Bool, cases_lt, eqb-true, and_parts}
+use Rattle.std.proofs.lemmas.Bool.{cases_Bool, cases_lt, eqb-true, and_parts, cond_both}
 use Rattle.std.proofs.lemmas.Bool.Decides.{nat_tests}
 use Rattle.std.proofs.lemmas.List.{append-nil}
-use Rattle.std.proofs.lemmas.Str.{digit_value_digit}
 use Rattle.std.specs.Prelude.{ℤ, option_and_then}
 use Rattle.std.specs.Char.{digit_value, is_ascii_digit}
 use Rattle.std.specs.List.{list_all}
 use Rattle.std.specs.Str.Parse.{AllDigits, digits_value, digits_value_after}
+use Rattle.mc_base.proofs.Digits.{digit_is, is_digit}
 use Rattle.mc_digits.specs.Fields.{AreBlanks, IsCount, IsSigned, is_blank, ten_thousandths}
 use Rattle.mc_digits.specs.Fronts.{count_behind, count_of, count_signed, counted, digits_front, sign_front, signed_value, skip_blanks, weighted}
 
 -- ---- digits
-
-pub digit_is : (b : ℕ) → is_ascii_digit b ≡ true → (digit_value b < 10) × (b - 48 ≡ digit_value b)
-digit_is b is =
-    let range : (48 ≤ b) × (b ≤ 57) = grind arith in
-    let value : digit_value b + 48 ≡ b = digit_value_digit b range in
-    (omega arith, omega arith)
-
-pub is_digit : (b : ℕ) → digit_value b < 10 → is_ascii_digit b ≡ true
-is_digit b small = grind (arith, nat_tests)
 
 -- a test of the first byte
 abbrev pub starts : (ℕ → Bool) → List ℕ → Bool
@@ -135,17 +126,13 @@ pub record Sign (text : List ℕ) : Type 0 where
 abbrev Signs : List ℕ → Bool × List ℕ → Type 0
 Signs text front = (sign : List ℕ) × (text ≡ sign ++ front.1) × ((amount : ℕ) → IsSigned sign amount (signed_value front.0 amount))
 
-choose : {A : Type 0} (G : A → Type 0) (t : Bool) (p q : A) → (t ≡ true → G p) → (t ≡ false → G q) → G (if t then p else q)
-choose G true p q here there = here refl
-choose G false p q here there = there refl
-
 pub sign_of : (text : List ℕ) → Sign text
 sign_of [] = record { sign = []; joined = refl; signed = λ amount. inl (inl refl, refl) }
 sign_of (b ∷ bs) =
     let found : Signs (b ∷ bs) (sign_front (b ∷ bs)) =
-    choose (Signs (b ∷ bs)) (b == 45) (true, bs) _
+    cond_both (b == 45) (true, bs) _ (Signs (b ∷ bs))
     (λ t. (b ∷ [], refl, λ amount. inr (ap (λ x. x ∷ []) (eqb-true b 45 t), refl)))
-    (λ _. choose (Signs (b ∷ bs)) (b == 43) (false, bs) (false, b ∷ bs)
+    (λ _. cond_both (b == 43) (false, bs) (false, b ∷ bs) (Signs (b ∷ bs))
     (λ t. (b ∷ [], refl, λ amount. inl (inr (ap (λ x. x ∷ []) (eqb-true b 43 t)), refl)))
     (λ _. ([], refl, λ amount. inl (inl refl, refl)))) in
     record { sign = found.0; joined = found.1; signed = found.2 }

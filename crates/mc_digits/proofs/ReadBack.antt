@@ -56,35 +56,29 @@ digit_so k small =
     let value : digit_value (48 + k) + 48 ≡ 48 + k = digit_value_digit (48 + k) range in
     omega arith
 
+four_values : (n : ℕ) → n < 10000
+    → (digit_value (48 + n / 1000) ≡ n / 1000) × (digit_value (48 + n / 100 % 10) ≡ n / 100 % 10) × (digit_value (48 + n / 10 % 10) ≡ n / 10 % 10) × (digit_value (48 + n % 10) ≡ n % 10)
+four_values n small = (digit_so (n / 1000) (omega arith), digit_so (n / 100 % 10) (omega arith), digit_so (n / 10 % 10) (omega arith), digit_so (n % 10) (omega arith))
+
 four_are_digits : (n : ℕ) → n < 10000 → AllDigits 10 (four_digits n)
 four_are_digits n small =
+    let value = four_values n small in
     let a : n / 1000 < 10 = omega arith in
     let b : n / 100 % 10 < 10 = omega arith in
     let c : n / 10 % 10 < 10 = omega arith in
     let d : n % 10 < 10 = omega arith in
-    let va = digit_so (n / 1000) a in
-    let vb = digit_so (n / 100 % 10) b in
-    let vc = digit_so (n / 10 % 10) c in
-    let vd = digit_so (n % 10) d in
-    (subst (λ k. k < 10) (sym va) a, (subst (λ k. k < 10) (sym vb) b, (subst (λ k. k < 10) (sym vc) c, (subst (λ k. k < 10) (sym vd) d, tt))))
+    (subst (λ k. k < 10) (sym value.0) a, (subst (λ k. k < 10) (sym value.1) b, (subst (λ k. k < 10) (sym value.2) c, (subst (λ k. k < 10) (sym value.3) d, tt))))
 
 four_sum : (n : ℕ) → (((0 * 10 + n / 1000) * 10 + n / 100 % 10) * 10 + n / 10 % 10) * 10 + n % 10 ≡ n
 four_sum n = omega arith
 
 four_value : (n : ℕ) → n < 10000 → ten_thousandths (four_digits n) ≡ n
 four_value n small =
-    let a : n / 1000 < 10 = omega arith in
-    let b : n / 100 % 10 < 10 = omega arith in
-    let c : n / 10 % 10 < 10 = omega arith in
-    let d : n % 10 < 10 = omega arith in
-    let va = digit_so (n / 1000) a in
-    let vb = digit_so (n / 100 % 10) b in
-    let vc = digit_so (n / 10 % 10) c in
-    let vd = digit_so (n % 10) d in
-    ap (λ x. ((((0 * 10 + x) * 10 + digit_value (48 + n / 100 % 10)) * 10 + digit_value (48 + n / 10 % 10)) * 10 + digit_value (48 + n % 10))) va
-    ∙ ap (λ x. ((((0 * 10 + n / 1000) * 10 + x) * 10 + digit_value (48 + n / 10 % 10)) * 10 + digit_value (48 + n % 10))) vb
-    ∙ ap (λ x. ((((0 * 10 + n / 1000) * 10 + n / 100 % 10) * 10 + x) * 10 + digit_value (48 + n % 10))) vc
-    ∙ ap (λ x. ((((0 * 10 + n / 1000) * 10 + n / 100 % 10) * 10 + n / 10 % 10) * 10 + x)) vd
+    let value = four_values n small in
+    ap (λ x. ((((0 * 10 + x) * 10 + digit_value (48 + n / 100 % 10)) * 10 + digit_value (48 + n / 10 % 10)) * 10 + digit_value (48 + n % 10))) value.0
+    ∙ ap (λ x. ((((0 * 10 + n / 1000) * 10 + x) * 10 + digit_value (48 + n / 10 % 10)) * 10 + digit_value (48 + n % 10))) value.1
+    ∙ ap (λ x. ((((0 * 10 + n / 1000) * 10 + n / 100 % 10) * 10 + x) * 10 + digit_value (48 + n % 10))) value.2
+    ∙ ap (λ x. ((((0 * 10 + n / 1000) * 10 + n / 100 % 10) * 10 + n / 10 % 10) * 10 + x)) value.3
     ∙ four_sum n
 
 pub fixed_back : (n : ℤ) (width : ℕ) → unsigned_abs n < 10 ^ 16 → fixed_of (right_aligned width (fixed_text n)) ≡ Some n

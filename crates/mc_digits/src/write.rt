@@ -9,7 +9,7 @@ use mc_base::{NoMemory, Text};
 /// Adds the digits of a number; where memory runs out nothing is added. Numbers of one and of two digits, which
 /// are most of those that are written, are made in place.
 #[inline]
-#[tactic(auto, using(crate::proofs::Decimals::one_digit, crate::proofs::Decimals::two_digits))]
+#[tactic(auto, using(crate::proofs::Decimals::decimal_digit, crate::proofs::Decimals::decimal_two))]
 pub fn put_number(out: &mut Text, n: u64) -> Result<(), NoMemory>
     ensures ok { OnOk result (out.new ≡ out.old ++ decimal n) }
     ensures err { OnErr result (out.new ≡ out.old) }

@@ -1,7 +1,8 @@
 -- A number behind a word, and the three counts of a line.
 use Rattle.std.proofs.Common.{arith, ◌≡◌, ◌∙◌, ◌<◌, ◌^◌, ℕ, true, false, List, [], ◌∷◌, ◌++◌, refl, ap, sym, append-nil}
 use Rattle.std.specs.Prelude.{Option, Some, None, decimal, codes, option_and_then}
-use Rattle.mc_report.specs.Fronts.{starts_digit, word_front, number_front, labelled, most_count}
+use Rattle.mc_base.specs.Digits.{starts_digit}
+use Rattle.mc_report.specs.Fronts.{word_front, number_front, labelled, most_count}
 use Rattle.mc_report.specs.Behind.{is_end, ends, counts_front, AreCounts}
 use Rattle.mc_report.proofs.Numbers.{number_exact}
 use Rattle.mc_report.proofs.Words.{word_found, word_read}

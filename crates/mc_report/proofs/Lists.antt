@@ -5,11 +5,15 @@ use Rattle.std.proofs.lemmas.Bool.Decides.{nat_tests}
 use Rattle.std.proofs.lemmas.Fmt.{decimal_is_IsNumeral}
 use Rattle.std.specs.Char.{is_ascii_digit}
 use Rattle.std.specs.Str.Parse.{AllDigits}
+use Rattle.std.proofs.lemmas.Option.{some_pair_parts}
+use Rattle.std.proofs.lemmas.Bool.{cond-false}
 use Rattle.mc_base.specs.declared.ids.AtomId.{AtomId}
+use Rattle.mc_base.proofs.Digits.{is_digit}
+use Rattle.mc_base.specs.Digits.{starts_digit}
 use Rattle.mc_report.specs.Grammar.{AreAtoms}
 use Rattle.mc_report.specs.Report.{numbers, later_numbers}
-use Rattle.mc_report.specs.Fronts.{starts_digit, word_front, number_front, most_count, atom_of, atom_front, goes_on, IsList, FindsList}
-use Rattle.mc_report.proofs.Numbers.{IsNumber, number_exact, same_pair, is_digit, choose_else}
+use Rattle.mc_report.specs.Fronts.{word_front, number_front, most_count, atom_of, atom_front, goes_on, IsList, FindsList}
+use Rattle.mc_report.proofs.Numbers.{IsNumber, number_exact}
 use Rattle.mc_report.proofs.Words.{word_found}
 
 -- ---- an atom
@@ -32,7 +36,7 @@ before atom = let same : atom.0 + 1 - 1 ≡ atom.0 = omega arith in ap (λ n. re
 pub atom_read : (atom : AtomId) (tail text : List ℕ) → IsAtom atom tail text → atom_front text ≡ Some (atom, tail)
 atom_read atom tail text is =
     let found = (number_exact most_count text fits (atom.0 + 1) tail).1 is in
-    ap (option_and_then atom_of) found ∙ choose_else (atom.0 + 1 == 0) _ _ (atom_so (atom.0 + 1) atom refl) ∙ ap (λ a. Some (a, tail)) (before atom)
+    ap (option_and_then atom_of) found ∙ cond-false (atom.0 + 1 == 0) _ _ (atom_so (atom.0 + 1) atom refl) ∙ ap (λ a. Some (a, tail)) (before atom)
 
 pub atom_found : (atom : AtomId) (tail text : List ℕ) → atom_front text ≡ Some (atom, tail) → IsAtom atom tail text
 atom_found atom tail text is = behind (number_front most_count text) refl is
@@ -45,7 +49,7 @@ atom_found atom tail text is = behind (number_front most_count text) refl is
     by_zero n rest true nothing e found = cc
     by_zero n rest false some e found =
         let number = (number_exact most_count text fits n rest).0 e in
-        let same : (record { 0 = n - 1 } ≡ atom) × (rest ≡ tail) = same_pair (record { 0 = n - 1 }) atom rest tail found in
+        let same : (record { 0 = n - 1 } ≡ atom) × (rest ≡ tail) = some_pair_parts (record { 0 = n - 1 }) atom rest tail found in
         let value : n ≡ atom.0 + 1 = above n some (ap (λ (a : AtomId). a.0) same.0) in
         subst (λ t. IsNumber most_count (atom.0 + 1) t text) same.1 (subst (λ k. IsNumber most_count k rest text) value number)
 
@@ -174,11 +178,11 @@ step text done rest a behind next reading found comma = record {
     one_more : (others : List AtomId) (tail : List ℕ) (first : AtomId) (more : List AtomId) → others ≡ done ++ first ∷ more → AreAtoms more → goes_on tail ≡ false
         → atom_front rest ≡ Some (first, later_numbers more ++ tail) → Goes others (done ++ a ∷ []) tail next
     one_more others tail first [] joined small stops read =
-        let same : (a ≡ first) × (behind ≡ tail) = same_pair a first behind tail (sym found ∙ read) in
+        let same : (a ≡ first) × (behind ≡ tail) = some_pair_parts a first behind tail (sym found ∙ read) in
         let goes : goes_on tail ≡ true = ap goes_on (sym same.1 ∙ comma_behind behind next comma) in
         cc
     one_more others tail first (b ∷ more) joined small stops read =
-        let same : (a ≡ first) × (behind ≡ 44 ∷ (numbers (b ∷ more) ++ tail)) = same_pair a first behind _ (sym found ∙ read) in
+        let same : (a ≡ first) × (behind ≡ 44 ∷ (numbers (b ∷ more) ++ tail)) = some_pair_parts a first behind _ (sym found ∙ read) in
         let rest_same : 44 ∷ next ≡ 44 ∷ (numbers (b ∷ more) ++ tail) = sym (comma_behind behind next comma) ∙ same.1 in
         record {
           first = b;
@@ -197,7 +201,7 @@ none_found text done rest reading none = λ others tail. (
 )
 
 at_pair : (P : List AtomId → List ℕ → Type 0) (a c : List AtomId) (b d : List ℕ) → P a b → ◌≡◌ {A = Option (List AtomId × List ℕ)} (Some (a, b)) (Some (c, d)) → P c d
-at_pair P a c b d holds e = let same = same_pair a c b d e in subst (λ y. P c y) same.1 (subst (λ x. P x b) same.0 holds)
+at_pair P a c b d holds e = let same = some_pair_parts a c b d e in subst (λ y. P c y) same.1 (subst (λ x. P x b) same.0 holds)
 
 pub last_found : (text : List ℕ) (done : List AtomId) (rest : List ℕ) (a : AtomId) (behind : List ℕ) → Reading text done rest
     → atom_front rest ≡ Some (a, behind) → word_front (44 ∷ []) behind ≡ None → FindsList text (Some (done ++ a ∷ [], behind))
@@ -229,10 +233,10 @@ last_found text done rest a behind reading found comma = λ others tail. (
     only : (others : List AtomId) (tail : List ℕ) (first : AtomId) (more : List AtomId) → others ≡ done ++ first ∷ more
         → atom_front rest ≡ Some (first, later_numbers more ++ tail) → ◌≡◌ {A = Option (List AtomId × List ℕ)} (Some (done ++ a ∷ [], behind)) (Some (others, tail))
     only others tail first [] joined read =
-        let same : (a ≡ first) × (behind ≡ tail) = same_pair a first behind tail (sym found ∙ read) in
+        let same : (a ≡ first) × (behind ≡ tail) = some_pair_parts a first behind tail (sym found ∙ read) in
         ap (λ f. Some (done ++ f ∷ [], behind)) same.0 ∙ ap (λ x. Some (x, behind)) (sym joined) ∙ ap (λ y. Some (others, y)) same.1
     only others tail first (b ∷ more) joined read =
-        let same : (a ≡ first) × (behind ≡ 44 ∷ (numbers (b ∷ more) ++ tail)) = same_pair a first behind _ (sym found ∙ read) in
+        let same : (a ≡ first) × (behind ≡ 44 ∷ (numbers (b ∷ more) ++ tail)) = some_pair_parts a first behind _ (sym found ∙ read) in
         let comma_there = ap (word_front (44 ∷ [])) same.1 in
         cc
 
@@ -258,7 +262,7 @@ first_same : (x y : AtomId) (xs ys : List AtomId) (t u text : List ℕ) → IsLi
 first_same x y xs ys t u text is also =
     let first = at_first x xs t text is.joined (head_at x xs is.in_range) is.stops in
     let other = at_first y ys u text also.joined (head_at y ys also.in_range) also.stops in
-    same_pair x y (later_numbers xs ++ t) (later_numbers ys ++ u) (sym first ∙ other)
+    some_pair_parts x y (later_numbers xs ++ t) (later_numbers ys ++ u) (sym first ∙ other)
 
 -- a text begins with one list of atoms
 pub list_once : (xs ys : List AtomId) (t u text : List ℕ) → IsList xs t text → IsList ys u text → (xs ≡ ys) × (t ≡ u)

@@ -1,38 +1,16 @@
 -- A number without leading zeros is found at the front of a text, and nothing else is.
 use Rattle.std.proofs.Common.{arith, ◌≡◌, ◌∙◌, ◌<◌, ◌≤◌, ◌+◌, ◌-◌, ◌*◌, ◌^◌, ◌==◌, nat_lt, ℕ, zero, suc, Bool, true, false, if◌then◌else◌, List, [], ◌∷◌, ◌++◌, length, get_or, refl, ap, sym, subst}
-use Rattle.std.specs.Prelude.{Option, Some, None, unwrap_or, ◌↔◌, decimal}
+use Rattle.std.specs.Prelude.{Option, Some, None, ◌↔◌, decimal}
 use Rattle.std.proofs.lemmas.Bool.Decides.{nat_tests}
 use Rattle.std.proofs.lemmas.Fmt.{decimal_is_IsNumeral, decimal_digit, first_decimal, decimal-digits_value}
-use Rattle.std.proofs.lemmas.Str.{digit_value_digit}
 use Rattle.std.proofs.lemmas.Str.Parse.{numerals_by_value, tells_digits}
 use Rattle.std.specs.Char.{digit_value, is_ascii_digit}
 use Rattle.std.specs.Str.Parse.{AllDigits, digits_value, digits_value_after}
-use Rattle.mc_report.specs.Fronts.{starts_digit, digits_front, number_front}
-
--- equal answers have equal parts
-pub same_pair : {A B : Type 0} (a c : A) (b d : B) → ◌≡◌ {A = Option (A × B)} (Some (a, b)) (Some (c, d)) → (a ≡ c) × (b ≡ d)
-same_pair {A} {B} a c b d e = (ap (λ (o : Option (A × B)). (unwrap_or {T = A × B} o (a, b)).0) e, ap (λ (o : Option (A × B)). (unwrap_or {T = A × B} o (a, b)).1) e)
-
-pub choose_then : {A : Type 0} (t : Bool) (x y : A) → t ≡ true → (if t then x else y) ≡ x
-choose_then true x y is = refl
-choose_then false x y is = cc
-
-pub choose_else : {A : Type 0} (t : Bool) (x y : A) → t ≡ false → (if t then x else y) ≡ y
-choose_else true x y is = cc
-choose_else false x y is = refl
-
--- a digit and its value
-digit_is : (b : ℕ) → is_ascii_digit b ≡ true → (digit_value b < 10) × (b - 48 ≡ digit_value b)
-digit_is b is =
-    let range : (48 ≤ b) × (b ≤ 57) = grind arith in
-    let value : digit_value b + 48 ≡ b = digit_value_digit b range in
-    (omega arith, omega arith)
-
-pub is_digit : (b : ℕ) → digit_value b < 10 → is_ascii_digit b ≡ true
-is_digit b small = grind (arith, nat_tests)
-
-within_most : (n most : ℕ) → nat_lt most n ≡ false → n ≤ most
-within_most n most is = grind (arith, nat_tests)
+use Rattle.std.proofs.lemmas.Option.{some_pair_parts}
+use Rattle.std.proofs.lemmas.Bool.{cond-true, cond-false, ltb-false}
+use Rattle.mc_base.proofs.Digits.{digit_is, is_digit}
+use Rattle.mc_base.specs.Digits.{starts_digit}
+use Rattle.mc_report.specs.Fronts.{digits_front, number_front}
 
 -- a number at the front that isn't above the most
 pub record IsNumber (most n : ℕ) (tail text : List ℕ) : Type 0 where
@@ -53,7 +31,7 @@ record Run (most value n : ℕ) (tail text : List ℕ) : Type 0 where
 
 run_at : (most value n : ℕ) (tail text : List ℕ) → value ≤ most → digits_front most value text ≡ Some (n, tail) → Run most value n tail text
 run_at most value n tail [] fits is =
-    let same : (value ≡ n) × ([] ≡ tail) = same_pair value n [] tail is in
+    let same : (value ≡ n) × ([] ≡ tail) = some_pair_parts value n [] tail is in
     record { digits = []; joined = same.1; all = tt; writes = sym same.0; within = subst (λ k. k ≤ most) same.0 fits; stops = subst (λ t. starts_digit t ≡ false) same.1 refl }
 run_at most value n tail (b ∷ text) fits is = by_digit (is_ascii_digit b) refl is (λ small found. run_at most (value * 10 + (b - 48)) n tail text small found)
   where
@@ -61,7 +39,7 @@ run_at most value n tail (b ∷ text) fits is = by_digit (is_ascii_digit b) refl
         → (value * 10 + (b - 48) ≤ most → digits_front most (value * 10 + (b - 48)) text ≡ Some (n, tail) → Run most (value * 10 + (b - 48)) n tail text) → Run most value n tail (b ∷ text)
     by_size true digit above found later = cc
     by_size false digit within found later =
-        let small : value * 10 + (b - 48) ≤ most = within_most (value * 10 + (b - 48)) most within in
+        let small : value * 10 + (b - 48) ≤ most = ltb-false most (value * 10 + (b - 48)) within in
         let run = later small found in
         record {
           digits = b ∷ run.digits;
@@ -77,7 +55,7 @@ run_at most value n tail (b ∷ text) fits is = by_digit (is_ascii_digit b) refl
         → (value * 10 + (b - 48) ≤ most → digits_front most (value * 10 + (b - 48)) text ≡ Some (n, tail) → Run most (value * 10 + (b - 48)) n tail text) → Run most value n tail (b ∷ text)
     by_digit true digit found later = by_size (nat_lt most (value * 10 + (b - 48))) digit refl found later
     by_digit false other found later =
-        let same : (value ≡ n) × (b ∷ text ≡ tail) = same_pair value n (b ∷ text) tail found in
+        let same : (value ≡ n) × (b ∷ text ≡ tail) = some_pair_parts value n (b ∷ text) tail found in
         record { digits = []; joined = same.1; all = tt; writes = sym same.0; within = subst (λ k. k ≤ most) same.0 fits; stops = subst (λ t. starts_digit t ≡ false) same.1 other }
 
 number_sound : (most n : ℕ) (tail text : List ℕ) → most < 2 ^ 64 → number_front most text ≡ Some (n, tail) → IsNumber most n tail text
@@ -117,7 +95,7 @@ number_sound most n tail (b ∷ text) fits is = by_zero (b == 48) refl is
     by_next : (t : Bool) → b ≡ 48 → starts_digit text ≡ t → if◌then◌else◌ {A = Option (ℕ × List ℕ)} t None (Some (0, text)) ≡ Some (n, tail) → IsNumber most n tail (b ∷ text)
     by_next true zero_byte next found = cc
     by_next false zero_byte next found =
-        let same : (0 ≡ n) × (text ≡ tail) = same_pair 0 n text tail found in
+        let same : (0 ≡ n) × (text ≡ tail) = some_pair_parts 0 n text tail found in
         record {
           joined = ap (λ x. x ∷ text) zero_byte ∙ ap (λ t. 48 ∷ t) same.1 ∙ ap (λ t. t ++ tail) (sym (ap decimal (sym same.0) ∙ decimal_digit 0 (omega arith)));
           within = subst (λ k. k ≤ most) same.0 (omega arith);
@@ -149,7 +127,7 @@ digits_read most v (d ∷ digits) tail all within stops =
     let same : v * 10 + (d - 48) ≡ v * 10 + digit_value d = ap (λ k. v * 10 + k) value in
     let fits : nat_lt most (v * 10 + (d - 48)) ≡ false = not_above (v * 10 + (d - 48)) most (omega arith) in
     let later = digits_read most (v * 10 + digit_value d) digits tail all.1 within stops in
-    choose_then (is_ascii_digit d) _ _ digit ∙ choose_else (nat_lt most (v * 10 + (d - 48))) _ _ fits ∙ ap (λ k. digits_front most k (digits ++ tail)) same ∙ later
+    cond-true (is_ascii_digit d) _ _ digit ∙ cond-false (nat_lt most (v * 10 + (d - 48))) _ _ fits ∙ ap (λ k. digits_front most k (digits ++ tail)) same ∙ later
   where
     not_above : (n most : ℕ) → n ≤ most → nat_lt most n ≡ false
     not_above n most le = grind (arith, nat_tests)
@@ -166,7 +144,7 @@ number_read most n tail text fits number = ap (number_front most) number.joined 
         let digit : is_ascii_digit d ≡ true = is_digit d all.0 in
         let other : (d == 48) ≡ false = not_zero d first in
         let le : digits_value 10 (d ∷ digits) ≤ most = subst (λ k. k ≤ most) (sym value) number.within in
-        choose_else (d == 48) _ _ other ∙ choose_then (is_ascii_digit d) _ _ digit ∙ digits_read most 0 (d ∷ digits) tail all le number.stops ∙ ap (λ k. Some (k, tail)) value
+        cond-false (d == 48) _ _ other ∙ cond-true (is_ascii_digit d) _ _ digit ∙ digits_read most 0 (d ∷ digits) tail all le number.stops ∙ ap (λ k. Some (k, tail)) value
       where
         not_zero : (d : ℕ) → 48 < d → (d == 48) ≡ false
         not_zero d first = grind (arith, nat_tests)

@@ -2,6 +2,8 @@
 use Rattle.std.proofs.Common.{◌≡◌, ◌∙◌, ◌<◌, ◌^◌, ◌==◌, ◌&&◌, ◌||◌, ℕ, suc, Bool, true, false, if◌then◌else◌, List, [], ◌∷◌, ◌++◌, length, take, drop, refl, ap, sym, subst, append_assoc}
 use Rattle.std.specs.Prelude.{Option, Some, None, decimal, codes, IsTrue}
 use Rattle.std.proofs.lemmas.List.{take-append-drop}
+use Rattle.std.proofs.lemmas.Option.{some_pair_parts}
+use Rattle.std.proofs.lemmas.Bool.{cond-true}
 use Rattle.mc_base.specs.declared.ids.AtomId.{AtomId}
 use Rattle.mc_base.specs.declared.kind.Kind.{Kind}
 use Rattle.mc_base.specs.declared.kind.Kind.TheVariants.{NoPlacement}
@@ -13,7 +15,6 @@ use Rattle.mc_report.specs.Grammar.{AreAtoms, HasReason, is_increasing}
 use Rattle.mc_report.specs.Report.{numbers, reason}
 use Rattle.mc_report.specs.Fronts.{IsList, FindsList, labelled, most_count, word_front}
 use Rattle.mc_report.specs.Behind.{FindsLine, FindsKind, IsKind, RefusedBehind, BarrierBehind, barrier_of, barrier_with, place_of, place_with, is_end, name_len, ends_name}
-use Rattle.mc_report.proofs.Numbers.{same_pair, choose_then}
 use Rattle.mc_report.proofs.Words.{word_found, word_read}
 use Rattle.mc_report.proofs.Labels.{last_read, last_found}
 use Rattle.mc_report.proofs.Names.{has_space, no_space, same_name}
@@ -71,7 +72,7 @@ kind_none text none = λ kind rest. ((λ e. cc), (λ is. absurd (none kind (sym 
 
 pub kind_some : (text : List ℕ) (kind : Kind) (rest : List ℕ) → kind_name kind ≡ take (name_len text) text → rest ≡ drop (name_len text) text → FindsKind text (Some (kind, rest))
 kind_some text kind rest name behind = λ other tail. (
-  (λ e. let same = same_pair kind other rest tail e in subst (λ k. IsKind k tail text) same.0 (subst (λ t. IsKind kind t text) same.1 here)),
+  (λ e. let same = some_pair_parts kind other rest tail e in subst (λ k. IsKind k tail text) same.0 (subst (λ t. IsKind kind t text) same.1 here)),
   (λ is. let there = cut_kind other tail text is in
       ap (λ k. Some (k, rest)) (same_name kind other (name ∙ there.name)) ∙ ap (λ t. Some (other, t)) (behind ∙ there.behind)),
 )
@@ -113,7 +114,7 @@ place_exact k text kind rest finds other = λ line. (
   (λ e. at_place line (labelled most_count (codes " place=") rest) refl e),
   (λ b. let refusal = b.refusal in
       let there = (finds b.refusal.kind _).1 (kind_there k line text b) in
-      at_same line b (same_pair kind b.refusal.kind rest _ there)),
+      at_same line b (some_pair_parts kind b.refusal.kind rest _ there)),
 )
   where
     at_end : (line : ReportLine) (place : ℕ) (tail : List ℕ) (t : Bool) → labelled most_count (codes " place=") rest ≡ Some (place, tail) → is_end tail ≡ t
@@ -164,7 +165,7 @@ barrier_exact k text rest None word finds = λ line. (
 barrier_exact k text rest (Some (barrier, tail)) word finds = λ line. (
   (λ e. at_odd line (labelled most_count (codes " odd=") tail) refl e),
   (λ b. let there = (finds b.barrier (codes " odd=" ++ decimal b.odd)).1 (barrier_list k line text rest b (word_found (codes " barrier=") text rest word)) in
-      at_same line b (same_pair barrier b.barrier tail _ there)),
+      at_same line b (some_pair_parts barrier b.barrier tail _ there)),
 )
   where
     at_end : (line : ReportLine) (odd : ℕ) (more : List ℕ) (p q : Bool) → labelled most_count (codes " odd=") tail ≡ Some (odd, more) → is_end more ≡ p → is_increasing barrier ≡ q
@@ -193,7 +194,7 @@ barrier_exact k text rest (Some (barrier, tail)) word finds = λ line. (
     at_same line b same =
         let read = last_read (codes " odd=") b.odd tail same.1 b.odd_fits in
         let rises : is_increasing barrier ≡ true = ap is_increasing same.0 ∙ b.increasing in
-        ap (barrier_with k barrier) read ∙ choose_then (is_increasing barrier) _ _ rises ∙ ap (λ x. Some (RefusedLine k (made NoPlacement 0 x b.odd))) same.0 ∙ ap (λ l. Some l) (sym b.is)
+        ap (barrier_with k barrier) read ∙ cond-true (is_increasing barrier) _ _ rises ∙ ap (λ x. Some (RefusedLine k (made NoPlacement 0 x b.odd))) same.0 ∙ ap (λ l. Some l) (sym b.is)
 
 pub barrier_none : (k : ℕ) (text : List ℕ) → word_front (codes " barrier=") text ≡ None → FindsLine (λ line. BarrierBehind k line text) None
 barrier_none k text word = λ line. (
@@ -203,7 +204,7 @@ barrier_none k text word = λ line. (
 
 -- ---- either
 
-regroup : (a b c d : List ℕ) → ((a ++ b) ++ c) ++ d ≡ a ++ (b ++ (c ++ d))
+pub regroup : (a b c d : List ℕ) → ((a ++ b) ++ c) ++ d ≡ a ++ (b ++ (c ++ d))
 regroup a b c d = simp append_assoc
 
 pub barrier_parts : (kind : Kind) (place : ℕ) (barrier : List AtomId) (odd : ℕ) → NoPlacement ≡ kind → HasReason kind place barrier odd
@@ -231,7 +232,7 @@ pub refused_barrier : (k : ℕ) (text rest : List ℕ) (answer : Option ReportLi
     → FindsLine (λ line. RefusedBehind k line text) answer
 refused_barrier k text rest answer kinds finds = λ line. (
   (λ e. with_kind line ((finds line).0 e)),
-  (λ b. let there = (kinds b.refusal.kind _).1 (kind_there k line text b) in (finds line).1 (barrier_said k text rest line b (same_pair NoPlacement b.refusal.kind rest _ there))),
+  (λ b. let there = (kinds b.refusal.kind _).1 (kind_there k line text b) in (finds line).1 (barrier_said k text rest line b (some_pair_parts NoPlacement b.refusal.kind rest _ there))),
 )
   where
     with_kind : (line : ReportLine) → BarrierBehind k line rest → RefusedBehind k line text

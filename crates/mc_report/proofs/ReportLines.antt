@@ -1,6 +1,7 @@
 -- A whole report line.
 use Rattle.std.proofs.Common.{arith, ◌≡◌, ◌∙◌, ◌<◌, ◌≤◌, ◌^◌, ℕ, List, ◌++◌, refl, ap, sym, subst, append_assoc, inl, inr}
 use Rattle.std.specs.Prelude.{Option, Some, None, ◌↔◌, decimal, codes, IsNone, IfOk, Result, Ok, Err}
+use Rattle.std.proofs.lemmas.Option.{some_pair_parts}
 use Rattle.mc_base.specs.declared.ids.AtomId.{AtomId}
 use Rattle.mc_base.specs.declared.refusal.Refusal.{Refusal}
 use Rattle.mc_base.specs.Kinds.{kind_name}
@@ -10,8 +11,9 @@ use Rattle.mc_report.specs.Grammar.{Spells, IsRecordNumber}
 use Rattle.mc_report.specs.Report.{numbers, reason, ok_text, refused_text}
 use Rattle.mc_report.specs.Fronts.{number_front, word_front}
 use Rattle.mc_report.specs.Behind.{FindsLine, BehindNumber, OkBehind, RefusedBehind}
-use Rattle.mc_report.proofs.Numbers.{IsNumber, number_exact, same_pair}
+use Rattle.mc_report.proofs.Numbers.{IsNumber, number_exact}
 use Rattle.mc_report.proofs.Words.{word_found, word_read}
+use Rattle.mc_report.proofs.RefusedLines.{regroup}
 
 -- a fact of what was found that another follows from
 pub if_ok : {T E : Type 0} (P Q : T → Type 0) (r : Result T E) → ((x : T) → P x → Q x) → IfOk r P → IfOk r Q
@@ -78,12 +80,9 @@ ok_parts k map idle ring lines =
     regroup_last : (a b c d e f g h i : List ℕ) → (a ++ (b ++ (c ++ (d ++ (e ++ (f ++ (g ++ h))))))) ++ i ≡ a ++ (b ++ (c ++ (d ++ (e ++ (f ++ (g ++ (h ++ i)))))))
     regroup_last a b c d e f g h i = simp append_assoc
 
-regroup_refused : (a b c d : List ℕ) → ((a ++ b) ++ c) ++ d ≡ a ++ (b ++ (c ++ d))
-regroup_refused a b c d = simp append_assoc
-
 refused_parts : (k : ℕ) (refusal : Refusal) → refused_text k refusal
     ≡ decimal k ++ (codes " refused " ++ (kind_name refusal.kind ++ reason refusal.kind refusal.place refusal.barrier refusal.odd))
-refused_parts k refusal = regroup_refused (decimal k) (codes " refused ") (kind_name refusal.kind) (reason refusal.kind refusal.place refusal.barrier refusal.odd)
+refused_parts k refusal = regroup (decimal k) (codes " refused ") (kind_name refusal.kind) (reason refusal.kind refusal.place refusal.barrier refusal.odd)
 
 -- the number of a line, and what it says behind it
 pub record Parts (line : List ℕ) (read : ReportLine) : Type 0 where
@@ -153,7 +152,7 @@ pub line_found : (line : List ℕ) (k : ℕ) (rest : List ℕ) (answer : Option 
 line_found line k rest answer found some finds = λ read. (
   (λ e. spells_of line k rest read (some, below) number.joined ((finds read).0 e)),
   (λ s. let parts = parts_of line read s in
-      (finds read).1 (let there = (number_exact most line fits parts.k parts.rest).1 parts.is_number in at_same read parts (same_pair k parts.k rest parts.rest (sym found ∙ there)))),
+      (finds read).1 (let there = (number_exact most line fits parts.k parts.rest).1 parts.is_number in at_same read parts (some_pair_parts k parts.k rest parts.rest (sym found ∙ there)))),
 )
   where
     number : IsNumber most k rest line
@@ -175,7 +174,7 @@ pub number_zero : (line : List ℕ) (k : ℕ) (rest : List ℕ) → number_front
 number_zero line k rest found zero_number = λ read. (
   (λ e. cc),
   (λ s. let parts = parts_of line read s in let there = (number_exact most line fits parts.k parts.rest).1 parts.is_number in
-      let same : (k ≡ parts.k) × (rest ≡ parts.rest) = same_pair k parts.k rest parts.rest (sym found ∙ there) in
+      let same : (k ≡ parts.k) × (rest ≡ parts.rest) = some_pair_parts k parts.k rest parts.rest (sym found ∙ there) in
       absurd (positive parts.k parts.number.0 (sym same.0 ∙ zero_number))),
 )
   where

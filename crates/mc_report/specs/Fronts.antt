@@ -3,12 +3,9 @@ use Rattle.std.specs.Prelude.{◌≡◌, ℕ, ◌+◌, ◌-◌, ◌*◌, ◌==�
 use Rattle.std.specs.Borrow.{Bor}
 use Rattle.std.specs.Char.{is_ascii_digit}
 use Rattle.mc_base.specs.declared.ids.AtomId.{AtomId}
+use Rattle.mc_base.specs.Digits.{starts_digit}
 use Rattle.mc_report.specs.Grammar.{AreAtoms}
 use Rattle.mc_report.specs.Report.{numbers}
-
-abbrev pub starts_digit : List ℕ → Bool
-starts_digit [] = false
-starts_digit (b ∷ text) = is_ascii_digit b
 
 -- what is behind a word
 abbrev pub word_front : List ℕ → List ℕ → Option (List ℕ)

@@ -1,7 +1,7 @@
 ghost use Rattle.std.specs.Prelude.{◌≡◌, ◌+◌, ◌≤◌, [], length, IfOk, IfSome, option_copied};
-ghost use Rattle.mc_report.specs.Fronts.{starts_digit, word_front, digits_front, number_front, labelled, number_view, atom_front, atom_view, goes_on, list_view, FindsList};
+ghost use Rattle.mc_report.specs.Fronts.{word_front, digits_front, number_front, labelled, number_view, atom_front, atom_view, goes_on, list_view, FindsList};
 
-use mc_base::{AtomId, AtomList, NoMemory};
+use mc_base::{AtomId, AtomList, NoMemory, starts_digit};
 use std::alloc::Global;
 
 /// What is behind a word at the front.
@@ -18,15 +18,6 @@ pub fn word_front<'a>(text: &'a [u8], word: &[u8]) -> Option<&'a [u8]>
         }
     }
     Some(&text[word.len()..])
-}
-
-fn starts_digit(text: &[u8]) -> bool
-    ensures { result ≡ starts_digit text.now }
-{
-    match text {
-        [byte, ..] => byte.is_ascii_digit(),
-        [] => false,
-    }
 }
 
 /// The number that digits at the front write, where it isn't above the most, and what is behind them.

@@ -1,5 +1,6 @@
 pub mod RingSizes
 pub mod Levels
+pub mod Trees
 pub mod BlockSteps
 pub mod BlockEnds
 pub mod OneBlock

@@ -1,13 +1,15 @@
 -- Each part of a bracket is read to its end, whatever a bracket has behind it.
-use Rattle.std.proofs.Common.{arith, ◌≡◌, ◌+◌, ◌-◌, ◌*◌, ◌==◌, ◌||◌, ℕ, Bool, true, false, List, [], ◌∷◌, ◌++◌, Option, Some, None, refl, sym, ap, ◌∙◌, inl, inr, if◌then◌else◌}
+use Rattle.std.proofs.Common.{arith, ◌≡◌, ◌+◌, ◌-◌, ◌*◌, ◌==◌, ◌||◌, ℕ, Bool, true, false, List, [], ◌∷◌, ◌++◌, Option, Some, None, refl, sym, ap, ◌∙◌, inl, inr}
 use Rattle.std.proofs.lemmas.Bool.{or_right, cond-true}
 use Rattle.std.proofs.lemmas.Bool.Decides.{nat_tests}
 use Rattle.std.specs.Prelude.{ℤ}
 use Rattle.std.specs.Char.{is_ascii_digit}
 use Rattle.std.specs.Str.Parse.{IsNumeral, digits_value}
+use Rattle.mc_base.proofs.Digits.{digit_is, is_digit}
+use Rattle.mc_base.specs.Digits.{starts_digit}
 use Rattle.smi_lex.specs.Grammar.{held, SpellsAmount, SpellsCharge, SpellsChiral, SpellsClass, SpellsHydrogens, WritesDigits}
-use Rattle.smi_lex.specs.Fronts.{amount, charge_front, chiral_front, class_front, class_number, hydrogens_front, number_front, starts_digit}
-use Rattle.smi_lex.proofs.Numbers.{digit_is, is_digit, number_read}
+use Rattle.smi_lex.specs.Fronts.{amount, charge_front, chiral_front, class_front, class_number, hydrogens_front, number_front}
+use Rattle.smi_lex.proofs.Numbers.{number_read}
 
 -- the bytes that stand behind a charge, behind the hydrogens, behind the chirality and behind the symbol
 abbrev pub behind_charge : ℕ → Bool

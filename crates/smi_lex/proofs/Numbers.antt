@@ -1,21 +1,11 @@
 -- What a run of digits at the front writes.
-use Rattle.std.proofs.Common.{arith, ◌≡◌, ◌<◌, ◌≤◌, ◌+◌, ◌-◌, ◌*◌, ℕ, true, false, List, [], ◌∷◌, ◌++◌, refl, ap, ◌∙◌, if◌then◌else◌}
-use Rattle.std.proofs.lemmas.Bool.Decides.{nat_tests}
-use Rattle.std.proofs.lemmas.Str.{digit_value_digit}
+use Rattle.std.proofs.Common.{arith, ◌≡◌, ◌+◌, ◌-◌, ◌*◌, ℕ, true, false, List, [], ◌∷◌, ◌++◌, refl, ap, ◌∙◌, if◌then◌else◌}
 use Rattle.std.specs.Char.{digit_value, is_ascii_digit}
 use Rattle.std.specs.Str.Parse.{AllDigits, digits_value_after}
+use Rattle.mc_base.proofs.Digits.{digit_is, is_digit}
+use Rattle.mc_base.specs.Digits.{starts_digit}
 use Rattle.smi_lex.specs.Grammar.{held}
-use Rattle.smi_lex.specs.Fronts.{number_front, starts_digit}
-
--- a digit and its value
-pub digit_is : (b : ℕ) → is_ascii_digit b ≡ true → (digit_value b < 10) × (b - 48 ≡ digit_value b)
-digit_is b is =
-    let range : (48 ≤ b) × (b ≤ 57) = grind arith in
-    let value : digit_value b + 48 ≡ b = digit_value_digit b range in
-    (omega arith, omega arith)
-
-pub is_digit : (b : ℕ) → digit_value b < 10 → is_ascii_digit b ≡ true
-is_digit b small = grind (arith, nat_tests)
+use Rattle.smi_lex.specs.Fronts.{number_front}
 
 -- a value that can't be held doesn't come back
 pub held_step : (n held_n d : ℕ) → held_n ≡ held n → held (held_n * 10 + d) ≡ held (n * 10 + d)

@@ -1,10 +1,11 @@
 -- What stands at the front is spelled as the grammar says: for each part of a token, and for tokens.
 use Rattle.std.proofs.Common.{arith, ◌≡◌, ◌≤◌, ◌+◌, ◌-◌, ◌*◌, ◌==◌, ◌&&◌, ℕ, Bool, true, false, List, [], ◌∷◌, ◌++◌, Option, Some, None, refl, sym, ap, subst, inl, inr, if◌then◌else◌}
-use Rattle.std.proofs.lemmas.Bool.{eqb-true, and_parts}
+use Rattle.std.proofs.lemmas.Bool.{eqb-true, and_parts, cond_both}
 use Rattle.std.specs.Prelude.{ℤ, pos, neg_ℤ}
 use Rattle.std.specs.Option.{option_or}
 use Rattle.std.specs.Char.{is_ascii_digit}
 use Rattle.std.specs.Str.Parse.{AllDigits, digits_value}
+use Rattle.mc_base.proofs.Digits.{digit_is}
 use Rattle.mc_elements.specs.declared.element.Element.{Element}
 use Rattle.mc_elements.specs.declared.element.Element.TheVariants.{B, C, N, O, P, S, As, Se}
 use Rattle.mc_elements.specs.Elements.{element_of}
@@ -12,18 +13,13 @@ use Rattle.mc_elements.proofs.Symbols.{symbol-element_of}
 use Rattle.smi_lex.specs.declared.symbol.Symbol.{Symbol}
 use Rattle.smi_lex.specs.Grammar.{held, lower_symbol, SpellsAmount, SpellsCharge, SpellsChiral, SpellsHydrogens, SpellsIsotope, SpellsSymbol, WritesDigits}
 use Rattle.smi_lex.specs.Fronts.{amount, before, charge_front, chiral_front, chirality, class_digit, class_letter, hydrogen_count, hydrogens_front, in_case, lower_letter, lower_pair, number_front, second_digit, symbol_front, symbol_letter, symbol_pair}
-use Rattle.smi_lex.proofs.Numbers.{digit_is, number_run}
+use Rattle.smi_lex.proofs.Numbers.{number_run}
 
 -- a front of the text that is so, and the rest behind it
 pub record Front (Is : List ℕ → Type 0) (text rest : List ℕ) : Type 0 where
   pub front : List ℕ
   pub joined : text ≡ front ++ rest
   pub spelled : Is front
-
--- either side of a test
-pub choose : {A : Type 0} (G : A → Type 0) (t : Bool) (p q : A) → (t ≡ true → G p) → (t ≡ false → G q) → G (if t then p else q)
-choose G true p q here there = here refl
-choose G false p q here there = there refl
 
 -- the first answer of a chain of tests, or a later one
 pub peel : {A : Type 0} (t : Bool) (x y : A) (o : Option A) (Q : Type 0)
@@ -131,32 +127,32 @@ at_alone text = record { front = []; joined = refl; spelled = inl refl }
 class_digit_sound : (a b : ℕ) (bs : List ℕ) → a ≡ 84 → b ≡ 72 → BehindAt (a ∷ b ∷ bs) (class_digit (a ∷ b ∷ bs) bs)
 class_digit_sound a b [] is_t is_h = at_alone (a ∷ b ∷ [])
 class_digit_sound a b (c ∷ bs) is_t is_h =
-    choose (BehindAt (a ∷ b ∷ c ∷ bs)) (c == 49) (Some true, bs) _
+    cond_both (c == 49) (Some true, bs) _ (BehindAt (a ∷ b ∷ c ∷ bs))
     (λ t. let is_1 = eqb-true c 49 t in record { front = a ∷ b ∷ c ∷ []; joined = refl; spelled = inr (cc) })
-    (λ _. choose (BehindAt (a ∷ b ∷ c ∷ bs)) (c == 50) (Some false, bs) _
+    (λ _. cond_both (c == 50) (Some false, bs) _ (BehindAt (a ∷ b ∷ c ∷ bs))
     (λ t. let is_2 = eqb-true c 50 t in record { front = a ∷ b ∷ c ∷ []; joined = refl; spelled = inr (cc) })
     (λ _. at_alone (a ∷ b ∷ c ∷ bs)))
 
 class_letter_sound : (a : ℕ) (bs : List ℕ) → a ≡ 84 → BehindAt (a ∷ bs) (class_letter (a ∷ bs) bs)
 class_letter_sound a [] is_t = at_alone (a ∷ [])
 class_letter_sound a (b ∷ bs) is_t =
-    choose (BehindAt (a ∷ b ∷ bs)) (b == 72) (class_digit (a ∷ b ∷ bs) bs) _
+    cond_both (b == 72) (class_digit (a ∷ b ∷ bs) bs) _ (BehindAt (a ∷ b ∷ bs))
     (λ t. class_digit_sound a b bs is_t (eqb-true b 72 t))
     (λ _. at_alone (a ∷ b ∷ bs))
 
 chirality_sound : (text : List ℕ) → BehindAt text (chirality text)
 chirality_sound [] = at_alone []
 chirality_sound (b ∷ bs) =
-    choose (BehindAt (b ∷ bs)) (b == 64) (Some false, bs) _
+    cond_both (b == 64) (Some false, bs) _ (BehindAt (b ∷ bs))
     (λ t. record { front = b ∷ []; joined = refl; spelled = inl (ap (λ x. 64 ∷ x ∷ []) (eqb-true b 64 t)) })
-    (λ _. choose (BehindAt (b ∷ bs)) (b == 84) (class_letter (b ∷ bs) bs) _
+    (λ _. cond_both (b == 84) (class_letter (b ∷ bs) bs) _ (BehindAt (b ∷ bs))
     (λ t. class_letter_sound b bs (eqb-true b 84 t))
     (λ _. at_alone (b ∷ bs)))
 
 pub chiral_sound : (text : List ℕ) → Front (SpellsChiral (chiral_front text).0) text (chiral_front text).1
 chiral_sound [] = record { front = []; joined = refl; spelled = refl }
 chiral_sound (b ∷ bs) =
-    choose (λ (p : Option Bool × List ℕ). Front (SpellsChiral p.0) (b ∷ bs) p.1) (b == 64) (chirality bs) _
+    cond_both (b == 64) (chirality bs) _ (λ (p : Option Bool × List ℕ). Front (SpellsChiral p.0) (b ∷ bs) p.1)
     (λ t. let behind = chirality_sound bs in record {
       front = b ∷ behind.front;
       joined = ap (λ r. b ∷ r) behind.joined;
@@ -169,14 +165,14 @@ chiral_sound (b ∷ bs) =
 hydrogen_count_sound : (text : List ℕ) → Front (λ s. SpellsHydrogens (hydrogen_count text).0 (72 ∷ s)) text (hydrogen_count text).1
 hydrogen_count_sound [] = record { front = []; joined = refl; spelled = inr (inl (refl, refl)) }
 hydrogen_count_sound (b ∷ bs) =
-    choose (λ (p : ℕ × List ℕ). Front (λ s. SpellsHydrogens p.0 (72 ∷ s)) (b ∷ bs) p.1) (is_ascii_digit b) (b - 48, bs) _
+    cond_both (is_ascii_digit b) (b - 48, bs) _ (λ (p : ℕ × List ℕ). Front (λ s. SpellsHydrogens p.0 (72 ∷ s)) (b ∷ bs) p.1)
     (λ t. record { front = b ∷ []; joined = refl; spelled = inr (inr (b ∷ [], refl, one_digit 1 1 b (omega arith) (omega arith) t)) })
     (λ _. record { front = []; joined = refl; spelled = inr (inl (refl, refl)) })
 
 pub hydrogens_sound : (text : List ℕ) → Front (SpellsHydrogens (hydrogens_front text).0) text (hydrogens_front text).1
 hydrogens_sound [] = record { front = []; joined = refl; spelled = inl (refl, refl) }
 hydrogens_sound (b ∷ bs) =
-    choose (λ (p : ℕ × List ℕ). Front (SpellsHydrogens p.0) (b ∷ bs) p.1) (b == 72) (hydrogen_count bs) _
+    cond_both (b == 72) (hydrogen_count bs) _ (λ (p : ℕ × List ℕ). Front (SpellsHydrogens p.0) (b ∷ bs) p.1)
     (λ t. let behind = hydrogen_count_sound bs in record {
       front = b ∷ behind.front;
       joined = ap (λ r. b ∷ r) behind.joined;
@@ -191,16 +187,16 @@ second_digit_sound : (sign a : ℕ) (text : List ℕ) → is_ascii_digit a ≡ t
 second_digit_sound sign a [] is =
     record { front = []; joined = refl; spelled = inr (inr (a ∷ [], refl, one_digit 1 2 a (omega arith) (omega arith) is)) }
 second_digit_sound sign a (b ∷ bs) is =
-    choose (λ (p : ℕ × List ℕ). Front (λ s. SpellsAmount (sign ∷ []) p.0 (sign ∷ a ∷ s)) (b ∷ bs) p.1) (is_ascii_digit b) ((a - 48) * 10 + (b - 48), bs) _
+    cond_both (is_ascii_digit b) ((a - 48) * 10 + (b - 48), bs) _ (λ (p : ℕ × List ℕ). Front (λ s. SpellsAmount (sign ∷ []) p.0 (sign ∷ a ∷ s)) (b ∷ bs) p.1)
     (λ t. record { front = b ∷ []; joined = refl; spelled = inr (inr (a ∷ b ∷ [], refl, pair_of_digits 1 2 a b (omega arith) (omega arith) is t)) })
     (λ _. record { front = []; joined = refl; spelled = inr (inr (a ∷ [], refl, one_digit 1 2 a (omega arith) (omega arith) is)) })
 
 amount_sound : (sign : ℕ) (text : List ℕ) → Front (λ s. SpellsAmount (sign ∷ []) (amount sign text).0 (sign ∷ s)) text (amount sign text).1
 amount_sound sign [] = record { front = []; joined = refl; spelled = inl (refl, refl) }
 amount_sound sign (b ∷ bs) =
-    choose (λ (p : ℕ × List ℕ). Front (λ s. SpellsAmount (sign ∷ []) p.0 (sign ∷ s)) (b ∷ bs) p.1) (b == sign) (2, bs) _
+    cond_both (b == sign) (2, bs) _ (λ (p : ℕ × List ℕ). Front (λ s. SpellsAmount (sign ∷ []) p.0 (sign ∷ s)) (b ∷ bs) p.1)
     (λ t. record { front = b ∷ []; joined = refl; spelled = inr (inl (ap (λ x. sign ∷ x ∷ []) (eqb-true b sign t), refl)) })
-    (λ _. choose (λ (p : ℕ × List ℕ). Front (λ s. SpellsAmount (sign ∷ []) p.0 (sign ∷ s)) (b ∷ bs) p.1) (is_ascii_digit b) (second_digit (b - 48) bs) _
+    (λ _. cond_both (is_ascii_digit b) (second_digit (b - 48) bs) _ (λ (p : ℕ × List ℕ). Front (λ s. SpellsAmount (sign ∷ []) p.0 (sign ∷ s)) (b ∷ bs) p.1)
     (λ t. let behind = second_digit_sound sign b bs t in record {
       front = b ∷ behind.front;
       joined = ap (λ r. b ∷ r) behind.joined;
@@ -211,13 +207,13 @@ amount_sound sign (b ∷ bs) =
 pub charge_sound : (text : List ℕ) → Front (SpellsCharge (charge_front text).0) text (charge_front text).1
 charge_sound [] = record { front = []; joined = refl; spelled = inl (refl, refl) }
 charge_sound (b ∷ bs) =
-    choose (λ (p : ℤ × List ℕ). Front (SpellsCharge p.0) (b ∷ bs) p.1) (b == 43) (pos (amount 43 bs).0, (amount 43 bs).1) _
+    cond_both (b == 43) (pos (amount 43 bs).0, (amount 43 bs).1) _ (λ (p : ℤ × List ℕ). Front (SpellsCharge p.0) (b ∷ bs) p.1)
     (λ t. let behind = amount_sound 43 bs in record {
       front = b ∷ behind.front;
       joined = ap (λ r. b ∷ r) behind.joined;
       spelled = inr (inl ((amount 43 bs).0, refl, subst (λ x. SpellsAmount (43 ∷ []) (amount 43 bs).0 (x ∷ behind.front)) (sym (eqb-true b 43 t)) behind.spelled));
     })
-    (λ _. choose (λ (p : ℤ × List ℕ). Front (SpellsCharge p.0) (b ∷ bs) p.1) (b == 45) (neg_ℤ (pos (amount 45 bs).0), (amount 45 bs).1) _
+    (λ _. cond_both (b == 45) (neg_ℤ (pos (amount 45 bs).0), (amount 45 bs).1) _ (λ (p : ℤ × List ℕ). Front (SpellsCharge p.0) (b ∷ bs) p.1)
     (λ t. let behind = amount_sound 45 bs in record {
       front = b ∷ behind.front;
       joined = ap (λ r. b ∷ r) behind.joined;

@@ -4,6 +4,8 @@ use Rattle.std.proofs.lemmas.Bool.{cases_Bool, and_right}
 use Rattle.std.proofs.lemmas.Bool.Decides.{nat_tests}
 use Rattle.std.specs.Prelude.{ℤ, codes}
 use Rattle.std.specs.Char.{is_ascii_digit, is_ascii_lowercase, is_ascii_uppercase}
+use Rattle.mc_base.proofs.Digits.{digit_is, is_digit}
+use Rattle.mc_base.specs.Digits.{starts_digit}
 use Rattle.mc_elements.specs.declared.element.Element.{Element}
 use Rattle.mc_elements.specs.declared.element.Element.TheVariants.{B, C, N, O, F, P, S, Cl, As, Se, Br, I}
 use Rattle.mc_elements.specs.Elements.{element_of, is_symbol_text}
@@ -14,8 +16,8 @@ use Rattle.smi_lex.specs.declared.token.BondMark.TheVariants.{Single, Double, Tr
 use Rattle.smi_lex.specs.declared.token.TokenKind.{TokenKind}
 use Rattle.smi_lex.specs.declared.token.TokenKind.TheVariants.{Bare, Bracket, Bond, Ring, Enter, Leave, Dot}
 use Rattle.smi_lex.specs.Grammar.{lower_symbol, mark_text, may_be_bare, Spells, SpellsBracket, SpellsIsotope, SpellsSymbol, WritesDigits}
-use Rattle.smi_lex.specs.Fronts.{bracket_front, lower_letter, lower_pair, number_front, starts_digit, symbol_front, symbol_letter, symbol_pair, token_front, two_digits}
-use Rattle.smi_lex.proofs.Numbers.{digit_is, is_digit, number_read}
+use Rattle.smi_lex.specs.Fronts.{bracket_front, lower_letter, lower_pair, number_front, symbol_front, symbol_letter, symbol_pair, token_front, two_digits}
+use Rattle.smi_lex.proofs.Numbers.{number_read}
 use Rattle.smi_lex.proofs.Complete.{First, behind_symbol_byte, charge_first, charge_read, chiral_first, chiral_read, class_first, class_read, hydrogens_first, hydrogens_read}
 
 -- ---- symbols

@@ -1,10 +1,11 @@
 -- A token that is found at the front of a text is spelled by what stands there.
 use Rattle.std.proofs.Common.{arith, ◌≡◌, ◌+◌, ◌-◌, ◌*◌, ◌==◌, ◌&&◌, ℕ, true, false, List, [], ◌∷◌, ◌++◌, Option, Some, None, refl, sym, ap, subst, ◌∙◌, inl, inr, if◌then◌else◌, append_assoc}
-use Rattle.std.proofs.lemmas.Bool.{eqb-true, and_parts}
+use Rattle.std.proofs.lemmas.Bool.{eqb-true, and_parts, cond_both}
 use Rattle.std.specs.Prelude.{option_map, option_and_then, codes}
 use Rattle.std.specs.Option.{option_or}
 use Rattle.std.specs.Char.{is_ascii_digit}
 use Rattle.std.specs.Str.Parse.{AllDigits, IsNumeral}
+use Rattle.mc_base.specs.Digits.{starts_digit}
 use Rattle.mc_elements.specs.declared.element.Element.{Element}
 use Rattle.mc_elements.specs.declared.element.Element.TheVariants.{B, C, N, O, F, P, S, Cl, Br, I}
 use Rattle.smi_lex.specs.declared.symbol.Symbol.{Symbol}
@@ -13,9 +14,9 @@ use Rattle.smi_lex.specs.declared.token.BondMark.TheVariants.{Single, Double, Tr
 use Rattle.smi_lex.specs.declared.token.TokenKind.{TokenKind}
 use Rattle.smi_lex.specs.declared.token.TokenKind.TheVariants.{Bare, Bracket, Bond, Ring, Enter, Leave, Dot}
 use Rattle.smi_lex.specs.Grammar.{held, mark_text, Spells, SpellsClass}
-use Rattle.smi_lex.specs.Fronts.{bare_upper, before, behind_symbol, bond_mark, bracket_front, bracket_if, byte_kind, charge_front, chiral_front, class_front, class_number, closing, digit, hydrogens_front, letters_if, lower_letter, number_front, one_or_two_letters, percent_if, punctuation, starts_digit, symbol_front, token_front, two_digits}
+use Rattle.smi_lex.specs.Fronts.{bare_upper, before, behind_symbol, bond_mark, bracket_front, bracket_if, byte_kind, charge_front, chiral_front, class_front, class_number, closing, digit, hydrogens_front, letters_if, lower_letter, number_front, one_or_two_letters, percent_if, punctuation, symbol_front, token_front, two_digits}
 use Rattle.smi_lex.proofs.Numbers.{number_run}
-use Rattle.smi_lex.proofs.Sound.{Front, choose, peel, or_some, before_some, charge_sound, chiral_sound, hydrogens_sound, isotope_sound, one_digit, pair_of_digits, symbol_sound}
+use Rattle.smi_lex.proofs.Sound.{Front, peel, or_some, before_some, charge_sound, chiral_sound, hydrogens_sound, isotope_sound, one_digit, pair_of_digits, symbol_sound}
 
 -- ---- classes
 
@@ -29,7 +30,7 @@ numeral_of value (b ∷ bs) rest starts all stops = (omega arith, all)
 number_stops : (v : ℕ) (text : List ℕ) → starts_digit (number_front v text).1 ≡ false
 number_stops v [] = refl
 number_stops v (b ∷ bs) =
-    choose (λ (p : ℕ × List ℕ). starts_digit p.1 ≡ false) (is_ascii_digit b) (number_front (held (v * 10 + (b - 48))) bs) (v, b ∷ bs)
+    cond_both (is_ascii_digit b) (number_front (held (v * 10 + (b - 48))) bs) (v, b ∷ bs) (λ (p : ℕ × List ℕ). starts_digit p.1 ≡ false)
     (λ digit. number_stops (held (v * 10 + (b - 48))) bs)
     (λ other. other)
 
@@ -218,7 +219,7 @@ letters_sound : (a second : ℕ) (two one : Element) (text : List ℕ) → Spell
     → Front (λ s. Spells (one_or_two_letters second two one text).0 (a ∷ s)) text (one_or_two_letters second two one text).1
 letters_sound a second two one [] both single = record { front = []; joined = refl; spelled = single }
 letters_sound a second two one (b ∷ bs) both single =
-    choose (λ (p : TokenKind × List ℕ). Front (λ s. Spells p.0 (a ∷ s)) (b ∷ bs) p.1) (b == second) (Bare two false, bs) (Bare one false, b ∷ bs)
+    cond_both (b == second) (Bare two false, bs) (Bare one false, b ∷ bs) (λ (p : TokenKind × List ℕ). Front (λ s. Spells p.0 (a ∷ s)) (b ∷ bs) p.1)
     (λ t. record { front = b ∷ []; joined = refl; spelled = subst (λ x. Spells (Bare two false) (a ∷ x ∷ [])) (sym (eqb-true b second t)) both })
     (λ _. record { front = []; joined = refl; spelled = single })
 

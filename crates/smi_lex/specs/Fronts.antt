@@ -5,6 +5,7 @@ use Rattle.std.specs.Option.{option_or}
 use Rattle.std.specs.Char.{is_ascii_digit}
 use Rattle.mc_base.specs.declared.kind.Kind.{Kind}
 use Rattle.mc_base.specs.declared.kind.Kind.TheVariants.{BadToken, Wildcard, OtherChirality}
+use Rattle.mc_base.specs.Digits.{starts_digit}
 use Rattle.mc_elements.specs.declared.element.Element.{Element}
 use Rattle.mc_elements.specs.declared.element.Element.TheVariants.{B, C, N, O, F, P, S, Cl, As, Se, Br, I}
 use Rattle.mc_elements.specs.Elements.{element_of}
@@ -20,11 +21,6 @@ abbrev pub number_front : ℕ → List ℕ → ℕ × List ℕ
 number_front value [] = (value, [])
 number_front value (b ∷ bs) =
     if is_ascii_digit b then number_front (held (value * 10 + (b - 48))) bs else (value, b ∷ bs)
-
--- a digit stands at the front
-abbrev pub starts_digit : List ℕ → Bool
-starts_digit [] = false
-starts_digit (b ∷ bs) = is_ascii_digit b
 
 -- the elements whose symbol may stand in lower case
 abbrev pub lower_letter : ℕ → Option Element

@@ -1,9 +1,10 @@
 ghost use Rattle.std.specs.Prelude.{◌≡◌, ◌≤◌};
-ghost use Rattle.smi_lex.specs.Fronts.{number_front, starts_digit, chirality, chiral_front, hydrogen_count, hydrogens_front, second_digit, amount, charge_front, class_number, class_front, closing, behind_symbol, bracket_front};
+ghost use Rattle.smi_lex.specs.Fronts.{number_front, chirality, chiral_front, hydrogen_count, hydrogens_front, second_digit, amount, charge_front, class_number, class_front, closing, behind_symbol, bracket_front};
 ghost use Rattle.smi_lex.specs.Views.{front_view};
 
 use crate::TokenKind;
 use crate::symbol::{Symbol, symbol_front};
+use mc_base::starts_digit;
 
 /// The number whose digits stand at the front, and what is behind them; 0 where there is no digit.
 pub fn number_front(text: &[u8]) -> (u32, &[u8])
@@ -20,15 +21,6 @@ pub fn number_front(text: &[u8]) -> (u32, &[u8])
             .saturating_add(u32::from(*byte - b'0'));
     }
     (value, &[])
-}
-
-fn starts_digit(text: &[u8]) -> bool
-    ensures { result ≡ starts_digit text.now }
-{
-    match text {
-        [byte, ..] => byte.is_ascii_digit(),
-        [] => false,
-    }
 }
 
 /// The chirality behind `@`.

@@ -6,6 +6,7 @@ use Rattle.mc_rings.specs.Blocks.{Tree, IsTree}
 use Rattle.mc_rings.specs.Counts.{AreBelow}
 use Rattle.mc_rings.specs.Rings.{AreBlocks}
 use Rattle.mc_rings.proofs.BlockOrders.{order_of}
+use Rattle.mc_rings.proofs.Trees.{tree_of}
 use Rattle.mc_rings.proofs.rings.Rings.of.Goals as goal
 
 pub ring_sizes-requires-clause-blocks : goal.ring_sizes-requires-clause-blocks
@@ -22,17 +23,7 @@ ring_sizes-requires-clause-below c =
 pub returns : goal.returns
 returns c =
     let graph : BondGraph = c.graph-graph.result in
-    let tree : Tree = record {
-      bonds = graph.bonds;
-      atoms = graph.atoms;
-      order = c.in_ok-forest.forest.order.items;
-      places = c.in_ok-forest.forest.places.items;
-      parents = c.in_ok-forest.forest.parents.items;
-      roots = c.in_ok-forest.forest.roots.items;
-      heads = c.in_ok-tree.tree.heads.items;
-      firsts = c.in_ok-tree.tree.firsts.items;
-      above = c.in_ok-tree.tree.above.items;
-    } in
+    let tree : Tree = tree_of graph c.in_ok-forest.forest c.in_ok-tree.tree in
     let is : IsTree tree = record { forest = c.in_ok-forest.ensures.forest; blocked = c.in_ok-tree.ensures.blocked } in
     let order = order_of tree c.args.mol.now.atoms c.args.mol.now.centres c.args.mol.now.sides c.in_ok-blocks.blocks.items c.in_ok-order.order.items (ap (λ (g : BondGraph). g.atoms) c.graph-graph.ensures)
     (record { is = is; count = c.in_ok-blocks.ensures.are.count; each = c.in_ok-blocks.ensures.each }) (record { permuted = c.in_ok-order.ensures.permuted; sorted = c.in_ok-order.ensures.sorted }) in
