@@ -9,7 +9,7 @@ use Rattle.match_barrier.proofs.Edges.{has_front, has_rest, not_true_false}
 use Rattle.match_blossom.specs.Search.{Tree}
 use Rattle.match_blossom.specs.Climbing.{Climb}
 use Rattle.match_blossom.specs.Forest.{IsClimbing}
-use Rattle.match_blossom.proofs.Cycles.{has_either}
+use Rattle.match_blossom.proofs.Rotated.{has_either}
 
 pub even_climb : (mates : List ℕ) (part parent : ℕ → ℕ) (outer inner : ℕ → Bool) (order : ℕ → ℕ) (a : ℕ) (xs : List ℕ) (base : ℕ) → Climb mates part parent outer inner order a xs base → is_odd (length xs) ≡ false
 even_climb mates part parent outer inner order a [] base c = refl

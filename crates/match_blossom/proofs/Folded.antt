@@ -180,7 +180,7 @@ fold_keeps g mates root part outer inner parent order base others t f = record {
 
     base_first : (x : ℕ) → has (base ∷ others) x ≡ true → order base ≤ order x
     base_first x h = elim (either (has others x)) [
-      | inl in' ↦ f.first x in'
+      | inl in' ↦ let k = f.first x in' in omega arith
       | inr out ↦ elim (cases_eq base x) [
         | inl e ↦ let k : order base ≡ order x = ap order e in omega arith
         | inr ne ↦ absurd (false≢true (sym (not_in_cons base others x ne out) ∙ h))

@@ -1,6 +1,6 @@
 -- Two ways up that meet, and the edge between their ends, are a cycle that may be folded.
-use Rattle.std.proofs.Common.{◌≡◌, ◌≢◌, ℕ, zero, suc, ◌+◌, ◌<◌, List, [], ◌∷◌, ◌++◌, length, get_or, reverse, Bool, true, false, not, refl, ap, sym, ◌∙◌, inl, inr, arith, subst}
-use Rattle.std.specs.Prelude.{◌⊎◌, Result, Ok, Err, IfOk}
+use Rattle.std.proofs.Common.{◌≡◌, ℕ, zero, suc, ◌+◌, ◌<◌, List, [], ◌∷◌, ◌++◌, length, get_or, reverse, Bool, true, false, not, refl, ap, sym, ◌∙◌, inl, inr, arith, subst}
+use Rattle.std.specs.Prelude.{◌⊎◌}
 use Rattle.std.proofs.lemmas.Bool.{false≢true}
 use Rattle.match_barrier.specs.Graph.{has, IsGraph, NoRepeats}
 use Rattle.match_barrier.specs.Barrier.{is_odd}
@@ -9,9 +9,6 @@ use Rattle.match_barrier.proofs.Edges.{has_front, has_rest, not_true_false}
 use Rattle.match_blossom.specs.Foldings.{IsLiving, Touch, Chain}
 use Rattle.match_blossom.specs.Search.{Tree, IsFoldable}
 use Rattle.match_blossom.specs.Climbing.{Climb}
-use Rattle.match_blossom.specs.declared.forest.Forest.{Forest}
-use Rattle.match_blossom.specs.Labels.{at, is_outer, is_inner}
-use Rattle.match_blossom.specs.Forest.{IsForest, IsFoldableCycle, ForestClimbs}
 use Rattle.std.proofs.lemmas.List.{append_assoc, reverse-append}
 use Rattle.match_blossom.proofs.Pairs.{touch_back}
 use Rattle.match_blossom.proofs.Climbing.{on_the_way, climb_different, even_climb}
@@ -29,7 +26,7 @@ round_append : (xs zs ys : List ℕ) → round xs zs ++ ys ≡ round xs (zs ++ y
 round_append [] zs ys = refl
 round_append (x ∷ xs) zs ys = round_append xs (x ∷ zs) ys
 
-round_length : (xs zs : List ℕ) → length (round xs zs) ≡ length xs + length zs
+pub round_length : (xs zs : List ℕ) → length (round xs zs) ≡ length xs + length zs
 round_length [] zs = let e : length zs ≡ 0 + length zs = omega arith in e
 round_length (x ∷ xs) zs = let h = round_length xs (x ∷ zs) in omega arith
 
@@ -43,11 +40,11 @@ round_has (x ∷ xs) zs z h = elim (round_has xs (x ∷ zs) z h) [
   ]
 ]
 
-has_second : (xs zs : List ℕ) (z : ℕ) → has zs z ≡ true → has (round xs zs) z ≡ true
+pub has_second : (xs zs : List ℕ) (z : ℕ) → has zs z ≡ true → has (round xs zs) z ≡ true
 has_second [] zs z h = h
 has_second (x ∷ xs) zs z h = has_second xs (x ∷ zs) z (has_rest x zs z h)
 
-has_first : (xs zs : List ℕ) (z : ℕ) → has xs z ≡ true → has (round xs zs) z ≡ true
+pub has_first : (xs zs : List ℕ) (z : ℕ) → has xs z ≡ true → has (round xs zs) z ≡ true
 has_first [] zs z h = absurd (false≢true h)
 has_first (x ∷ xs) zs z h = elim (has_cases x xs z h) [
   | inl e ↦ has_second xs (x ∷ zs) z (has_front x zs z e)
@@ -143,41 +140,10 @@ foldable g mates root part outer inner parent order is t a b xs ys base up_a up_
         not_not true = refl
         not_not false = refl
 
-round_reverse : (xs zs : List ℕ) → round xs zs ≡ reverse xs ++ zs
+pub round_reverse : (xs zs : List ℕ) → round xs zs ≡ reverse xs ++ zs
 round_reverse [] zs = refl
 round_reverse (x ∷ xs) zs = round_reverse xs (x ∷ zs) ∙ sym (ap (λ (ys : List ℕ). ys ++ zs) (reverse-append (x ∷ []) xs) ∙ append_assoc (reverse xs) (x ∷ []) zs)
 
 -- The ways have met, and are made one list, the base first.
 pub cycle_is : (first second : List ℕ) (base : ℕ) → reverse (first ++ base ∷ []) ++ second ≡ base ∷ round first second
 cycle_is first second base = ap (λ (ys : List ℕ). ys ++ second) (reverse-append first (base ∷ [])) ∙ ap (λ (ys : List ℕ). base ∷ ys) (sym (round_reverse first second))
-
-empty_climb : (mates : List ℕ) (part parent : ℕ → ℕ) (outer inner : ℕ → Bool) (order : ℕ → ℕ) (a : ℕ) (xs : List ℕ) (base : ℕ) → Climb mates part parent outer inner order a xs base → length xs ≡ 0 → a ≡ base
-empty_climb mates part parent outer inner order a [] base c e = c
-empty_climb mates part parent outer inner order a (x ∷ xs) base c e = absurd (omega arith)
-
-pub met : (g : List (List ℕ)) (mates : List ℕ) (f : Forest) → IsGraph g → IsForest g mates f
-    → (a b x y : ℕ) (first second cycle : List ℕ) → ForestClimbs mates f a b x y first second → x ≡ y → a ≢ b → Touch g (at f.part.items) a b → cycle ≡ reverse (first ++ x ∷ []) ++ second
-    → IsFoldableCycle g mates f cycle
-met g mates f is s a b x y first second cycle c e different touch from =
-    let part : ℕ → ℕ = at f.part.items in
-    let parent : ℕ → ℕ = at f.parent.items in
-    let outer : ℕ → Bool = is_outer f.labels.items in
-    let inner : ℕ → Bool = is_inner f.labels.items in
-    let order : ℕ → ℕ = at f.order.items in
-    let second_way : Climb mates part parent outer inner order b second x = subst (λ (z : ℕ). Climb mates part parent outer inner order b second z) (sym e) c.second_way in
-    let found : IsFoldable g mates f.root part outer inner order x (round first second) =
-    foldable g mates f.root part outer inner parent order is s.tree a b first second x c.first_way second_way touch c.first_outer c.apart in
-    let long : 0 < length (round first second) = by (length (round first second)) (round_length first second) in
-    subst (λ (xs : List ℕ). IsFoldableCycle g mates f xs) (sym (from ∙ cycle_is first second x)) (record { long = omega arith; foldable = found })
-  where
-    by : (n : ℕ) → n ≡ length first + length second → 0 < n
-    by (suc n) h = omega arith
-    by zero h = absurd (different (
-        empty_climb mates (at f.part.items) (at f.parent.items) (is_outer f.labels.items) (is_inner f.labels.items) (at f.order.items) a first x c.first_way (omega arith)
-        ∙ e
-        ∙ sym (empty_climb mates (at f.part.items) (at f.parent.items) (is_outer f.labels.items) (is_inner f.labels.items) (at f.order.items) b second y c.second_way (omega arith))
-        ))
-
-pub ok_map : {X E : Type 0} (r : Result X E) (P Q : X → Type 0) → ((x : X) → P x → Q x) → IfOk r P → IfOk r Q
-ok_map (Ok x) P Q f h = f x h
-ok_map (Err e) P Q f h = tt

@@ -6,6 +6,7 @@ use Rattle.std.proofs.lemmas.Bool.Decides.{nat_tests}
 use Rattle.match_barrier.specs.Graph.{has, adjacent, IsGraph}
 use Rattle.match_barrier.specs.Barrier.{IsLeft, Walk, Joined, NamesParts, one_if, count, is_odd, is_member, part_size, names_odd_part}
 use Rattle.match_barrier.proofs.Counting.{either, both_true, true_both, test_same, same_of_test, count_same, count_none, but, but_is, count_but_le}
+use Rattle.match_barrier.proofs.Edges.{same_bools}
 use Rattle.match_barrier.proofs.Walks.{joined_sym, name_left, name_name}
 use Rattle.match_barrier.proofs.Tutte.{member_is, is_member_of}
 
@@ -71,11 +72,6 @@ name_inside g s name class is names closed k v below h =
       ap class (sym both.1) ∙ along g s class closed v j.0 (name v) both.0 j.1,
       ap name (sym both.1) ∙ name_name g s name is names v left ∙ both.1,
     )
-
-same_bools : (a b : Bool) → (a ≡ true → b ≡ true) → (b ≡ true → a ≡ true) → a ≡ b
-same_bools true b there back = sym (there refl)
-same_bools false true there back = back refl
-same_bools false false there back = refl
 
 -- then the whole part is in the class
 whole_part : (g : List (List ℕ)) (s : List ℕ) (name : ℕ → ℕ) (class : ℕ → Bool) → IsGraph g → NamesParts g s name → IsClosed g s class → (k : ℕ) → k < length g → class k ≡ true → (v : ℕ) → v < length g → named class name k v ≡ is_member s name k v

@@ -8,7 +8,7 @@ use Rattle.match_barrier.proofs.Counting.{either}
 use Rattle.match_barrier.proofs.Edges.{has_front, has_rest, not_true_false}
 use Rattle.match_blossom.specs.Foldings.{IsLiving, Touch, IsMatchingBut, pair_off, folded, IsCycle, Touches, Unfolds}
 use Rattle.match_blossom.proofs.Pairs.{touch_back, not_in_rest, not_in_cons, pairs_off, free_after}
-use Rattle.match_blossom.proofs.Cycles.{IsTurned, turned, chain_of_cycle, chain_of_others}
+use Rattle.match_blossom.proofs.Rotated.{IsTurned, turned, chain_of_cycle, chain_of_others}
 
 -- classes but the base's are as before
 pub class_before : (part : ℕ → ℕ) (base : ℕ) (others : List ℕ) (u v : ℕ) → folded part base others u ≡ v → v ≢ base → part u ≡ v
@@ -179,3 +179,7 @@ touches_cycle g part cycle mates some is m not_free =
 
 pub mate_below : (g : List (List ℕ)) (part : ℕ → ℕ) (base : ℕ) (others mates : List ℕ) → IsCycle g part base others → IsMatchingBut g (folded part base others) mates [] → get_or mates base 0 ≢ length g → get_or mates base 0 < length g
 mate_below g part base others mates is m not_free = (m.mate base (base_in g part base others is) refl not_free).0.0
+
+-- The mate of the base stands for a class of its own before the folding too.
+pub mate_own : (g : List (List ℕ)) (part : ℕ → ℕ) (base : ℕ) (others mates : List ℕ) → IsCycle g part base others → IsMatchingBut g (folded part base others) mates [] → get_or mates base 0 ≢ length g → part (get_or mates base 0) ≡ get_or mates base 0
+mate_own g part base others mates is m not_free = let r = m.mate base (base_in g part base others is) refl not_free in class_before part base others (get_or mates base 0) (get_or mates base 0) r.0.1 r.2

@@ -2,7 +2,6 @@
 use Rattle.std.specs.Prelude.{cond, ◌≡◌, ◌≢◌, ℕ, ◌<◌, List, [], ◌∷◌, ◌++◌, length, get_or, set, true, false}
 use Rattle.match_barrier.specs.Graph.{adjacent, has, NoRepeats}
 use Rattle.match_barrier.specs.Barrier.{is_odd}
-use Rattle.match_blossom.specs.Labels.{at}
 
 -- x is a node of the folded graph
 abbrev pub IsLiving : List (List ℕ) → (ℕ → ℕ) → ℕ → Type 0
@@ -53,31 +52,29 @@ pub record Touches (g : List (List ℕ)) (part : ℕ → ℕ) (cycle : List ℕ)
   pub inside : has cycle (part from) ≡ true
   pub outside : part to ≡ x
 
--- one folding: the classes before it, and the cycle
+-- one folding: its cycle
 pub record Folding : Type 0 where
-  pub before : List ℕ
   pub base : ℕ
   pub others : List ℕ
 
--- the foldings that led to these classes, the latest first
-abbrev pub Foldings : List (List ℕ) → List Folding → (ℕ → ℕ) → Type 0
-Foldings g [] part = (u : ℕ) → u < length g → part u ≡ u
-Foldings g (f ∷ earlier) part =
-    IsCycle g (at f.before) f.base f.others × (is_odd (length f.others) ≡ false) × ((u : ℕ) → u < length g → part u ≡ folded (at f.before) f.base f.others u) × Foldings g earlier (at f.before) × (length f.before ≡ length g)
+-- the classes that foldings led to, the latest first
+abbrev pub part_of : List Folding → ℕ → ℕ
+part_of [] u = u
+part_of (f ∷ earlier) u = folded (part_of earlier) f.base f.others u
+
+-- each of these foldings, the latest first, is one of an odd cycle
+abbrev pub Foldings : List (List ℕ) → List Folding → Type 0
+Foldings g [] = Unit {0}
+Foldings g (f ∷ earlier) = IsCycle g (part_of earlier) f.base f.others × (is_odd (length f.others) ≡ false) × Foldings g earlier
 
 -- what an unfolded matching keeps: who is free is living in the folded graph, and was free
 pub record Unfolds (g : List (List ℕ)) (part : ℕ → ℕ) (base : ℕ) (others : List ℕ) (mates after : List ℕ) : Type 0 where
   pub matching : IsMatchingBut g part after []
   pub free : (v : ℕ) → IsLiving g part v → get_or after v 0 ≡ length g → IsLiving g (folded part base others) v × (get_or mates v 0 ≡ length g)
 
--- the classes that foldings led to, the latest first
-abbrev pub part_of : List Folding → ℕ → ℕ
-part_of [] u = u
-part_of (f ∷ earlier) u = folded (at f.before) f.base f.others u
-
 -- Of all foldings some are left, and the others have been taken back; who is free then was living and free before.
 pub record IsUnfolding (g : List (List ℕ)) (before : List ℕ) (all : List Folding) (mates : List ℕ) (left : List Folding) : Type 0 where
-  pub folded : Foldings g left (part_of left)
+  pub folded : Foldings g left
   pub matching : IsMatchingBut g (part_of left) mates []
   pub free : (v : ℕ) → IsLiving g (part_of left) v → get_or mates v 0 ≡ length g → IsLiving g (part_of all) v × (get_or before v 0 ≡ length g)
 

@@ -2,7 +2,7 @@
 use Rattle.std.specs.Prelude.{◌≡◌, ℕ, ◌<◌, List, length, true}
 use Rattle.match_barrier.specs.Graph.{has, NoRepeats}
 use Rattle.match_barrier.specs.Barrier.{count}
-use Rattle.match_blossom.specs.declared.forest.Label.{Label}
+use Rattle.match_blossom.specs.declared.tree.Label.{Label}
 use Rattle.match_blossom.specs.Labels.{is_inner}
 
 -- The list has the inner nodes below n, each once.

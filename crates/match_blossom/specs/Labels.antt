@@ -1,7 +1,7 @@
 -- Labels and arrays as functions of a node.
 use Rattle.std.specs.Prelude.{ℕ, List, get_or, Bool, true, false}
-use Rattle.match_blossom.specs.declared.forest.Label.{Label}
-use Rattle.match_blossom.specs.declared.forest.Label.TheVariants.{Outside, Outer, Inner}
+use Rattle.match_blossom.specs.declared.tree.Label.{Label}
+use Rattle.match_blossom.specs.declared.tree.Label.TheVariants.{Outside, Outer, Inner}
 
 -- the entry of an array at a node
 abbrev pub at : List ℕ → ℕ → ℕ

@@ -1,6 +1,8 @@
 pub mod Search
 pub mod Foldings
 pub mod Labels
+pub mod Pointers
+pub mod Stack
 pub mod Climbing
 pub mod Forest
 pub mod Answer

@@ -47,7 +47,7 @@ pub record IsFoldable (g : List (List ℕ)) (mates : List ℕ) (root : ℕ) (par
   pub base_outer : outer base ≡ true
   pub not_root : has others root ≡ false
   pub labelled : (x : ℕ) → has others x ≡ true → (outer x ≡ true) ⊎ (inner x ≡ true)
-  pub first : (x : ℕ) → has others x ≡ true → order base ≤ order x
+  pub first : (x : ℕ) → has others x ≡ true → order base < order x
   pub mated : (x : ℕ) → has others x ≡ true → has others (get_or mates x 0) ≡ true
   pub mates_back : (x : ℕ) → has others x ≡ true → get_or mates x 0 < length g
 

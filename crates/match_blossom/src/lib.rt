@@ -1,14 +1,16 @@
 //! A perfect matching of a graph, or a barrier that excludes one, by Edmonds' method.
 #![tactic(auto)]
 
-mod folded_cycle;
-mod forest;
+mod augmenting;
+mod blossoms;
+mod contracting;
+mod cycles;
+mod greedy;
+mod lifting;
 mod matcher;
-mod meeting_point;
 mod search;
 #[cfg(test)]
 mod tests;
-mod turning;
-mod unfolding_step;
+mod tree;
 
 pub use matcher::{Matched, Matcher};

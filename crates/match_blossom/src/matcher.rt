@@ -1,12 +1,14 @@
-ghost use Rattle.std.specs.Prelude.{◌≡◌, ◌↔◌, ℕ, ◌<◌, ◌≤◌, ◌^◌, List, length, replicate, IfOk, OnOk};
-ghost use Rattle.std.specs.Bool.{MatchBool};
+ghost use Rattle.std.specs.Prelude.{◌≡◌, ◌↔◌, ℕ, ◌+◌, ◌<◌, ◌≤◌, ◌^◌, [], length, get_or, take, IfOk, IfSome, IfNone};
 ghost use Rattle.match_barrier.specs.Matching.{IsPerfect};
 ghost use Rattle.match_blossom.specs.Labels.{is_inner};
+ghost use Rattle.match_blossom.specs.Foldings.{IsMatchingBut, Augmented};
+ghost use Rattle.match_blossom.specs.Forest.{IsClean};
 ghost use Rattle.match_blossom.specs.Inner.{ListsInner};
 ghost use Rattle.match_blossom.specs.Answer.{IsAnswer, IsBarrierSet, HasNoPerfect, SaysBarrier};
 
-use crate::forest::{Forest, Label};
+use crate::greedy::match_greedily;
 use crate::search::search;
+use crate::tree::{AlternatingTree, Label, is_inner};
 use match_barrier::Graph;
 use mc_base::NoMemory;
 use std::alloc::Global;
@@ -20,21 +22,23 @@ pub enum Matched<'a> {
     Barrier(&'a [u32]),
 }
 
-/// Room for matchings, seen as the greatest number of nodes.
+/// Room for matchings, seen as the greatest number of nodes. It is taken once, and serves for each graph.
 #[derive(Drop)]
 pub struct Matcher {
-    alloc: Global,
-    nodes: u32,
     mates: Vec<u32>,
     set: Vec<u32>,
+    tree: AlternatingTree,
 }
 
 impl Model for Matcher {
-    ghost use Rattle.std.specs.Prelude.{ℕ};
+    ghost use Rattle.std.specs.Prelude.{ℕ, length, ◌≡◌};
+    ghost use Rattle.match_blossom.specs.Forest.{IsClean};
 
     ghost Value = { ℕ };
 
-    ghost view = { λ m. m.nodes };
+    ghost view = { λ m. length m.mates.items };
+
+    ghost invariant = { λ m. (length m.set.items ≡ length m.mates.items) × IsClean (length m.mates.items) m.tree };
 }
 
 impl Matcher {
@@ -45,85 +49,122 @@ impl Matcher {
     pub fn reserve(alloc: Global, nodes: u32, _edges: u32) -> Result<Matcher, NoMemory>
         ensures { IfOk result (λ room. room ≡ nodes) }
     {
-        let mates = Vec::with_capacity(alloc, nodes as usize)?;
-        let set = Vec::with_capacity(alloc, nodes as usize)?;
-        Ok(Matcher {
-            alloc,
-            nodes,
-            mates,
-            set,
-        })
+        let mates = vec![in alloc; 0u32; nodes as usize]?;
+        let set = vec![in alloc; 0u32; nodes as usize]?;
+        let tree = AlternatingTree::reserve(alloc, nodes)?;
+        Ok(Matcher { mates, set, tree })
     }
 
-    /// A perfect matching, or a barrier exactly where there is none.
-    pub fn solve(&mut self, graph: &Graph) -> Result<Matched<'_>, NoMemory>
+    /// A perfect matching, or a barrier exactly where there is none. Takes no memory, and leaves the room as it was.
+    pub fn solve(&mut self, graph: &Graph) -> Matched<'_>
         requires { length graph.now ≤ self.old }
         ensures* room { sem 𝓛 (KeepsRoom self.entry) }
-        ensures answer { IfOk result (λ matched. IsAnswer graph.now matched) }
-        ensures barrier { IfOk result (λ matched. SaysBarrier matched ↔ HasNoPerfect graph.now) }
+        ensures answer { IsAnswer graph.now result }
+        ensures barrier { SaysBarrier result ↔ HasNoPerfect graph.now }
     {
-        let perfect = solve_into(self.alloc, graph, &mut self.mates, &mut self.set)?;
-        if perfect {
-            Ok(Matched::Perfect(self.mates.as_slice()))
-        } else {
-            Ok(Matched::Barrier(self.set.as_slice()))
+        let nodes = graph.node_count() as usize;
+        match solve_within(
+            graph,
+            self.mates.as_mut_slice(),
+            &mut self.tree,
+            self.set.as_mut_slice(),
+        ) {
+            None => Matched::Perfect(&self.mates.as_slice()[..nodes]),
+            Some(size) => Matched::Barrier(&self.set.as_slice()[..size]),
         }
     }
 }
 
-// Whether there is a perfect matching; writes it, or a barrier.
-fn solve_into(
-    alloc: Global,
+// None where there is a perfect matching, which is written; else the size of a barrier, which is written.
+fn solve_within(
     graph: &Graph,
-    mates: &mut Vec<u32>,
-    set: &mut Vec<u32>,
-) -> Result<bool, NoMemory>
-    ensures { IfOk result (λ perfect. MatchBool perfect (IsPerfect graph.now mates.new.items) (IsBarrierSet graph.now set.new.items × HasNoPerfect graph.now)) }
+    mates: &mut [u32],
+    tree: &mut AlternatingTree,
+    set: &mut [u32],
+) -> Option<usize>
+    requires mates { length graph.now ≤ length mates.old }
+    requires set { length set.old ≡ length mates.old }
+    requires clean { IsClean (length mates.old) tree.old }
+    ensures none { IfNone result (IsPerfect graph.now (take (length graph.now) mates.new)) }
+    ensures some { IfSome result (λ size. (size ≤ length set.new) × IsBarrierSet graph.now (take size set.new) × HasNoPerfect graph.now) }
+    ensures mates_length { length mates.new ≡ length mates.old }
+    ensures set_length { length set.new ≡ length set.old }
+    ensures clean { IsClean (length mates.old) tree.new }
 {
     let nodes = graph.node_count();
-    free_all(mates, nodes)?;
-    for root in 0..nodes {
-        if mates[root as usize] == nodes {
-            let mut forest = Forest::new(alloc, graph, mates.as_slice(), root)?;
-            let found = search(alloc, graph, mates.as_mut_slice(), &mut forest)?;
-            if !found {
-                collect_inner(forest.labels.as_slice(), set)?;
-                return Ok(false);
+    solve_in(graph, &mut mates[..nodes as usize], tree, set)
+}
+
+// The same where there is a mate for each node.
+fn solve_in(
+    graph: &Graph,
+    mates: &mut [u32],
+    tree: &mut AlternatingTree,
+    set: &mut [u32],
+) -> Option<usize>
+    requires mates { length mates.old ≡ length graph.now }
+    requires room { length graph.now ≤ length set.old }
+    requires clean { IsClean (length set.old) tree.old }
+    ensures none { IfNone result (IsPerfect graph.now mates.new) }
+    ensures some { IfSome result (λ size. (size ≤ length set.new) × IsBarrierSet graph.now (take size set.new) × HasNoPerfect graph.now) }
+    ensures mates_length { length mates.new ≡ length mates.old }
+    ensures set_length { length set.new ≡ length set.old }
+    ensures clean { IsClean (length set.old) tree.new }
+{
+    match_greedily(graph, mates);
+    for root in 0..graph.node_count() {
+        if mates[root as usize] == graph.node_count() {
+            if let Some(size) = mate_root(graph, mates, tree, set, root) {
+                return Some(size);
             }
         }
     }
-    Ok(true)
+    None
 }
 
-// Each node is free.
-fn free_all(mates: &mut Vec<u32>, nodes: u32) -> Result<(), NoMemory>
-    ensures { OnOk result (mates.new.items ≡ replicate nodes nodes) }
+// Searches from a free node: mates it, or writes a barrier and answers its size.
+fn mate_root(
+    graph: &Graph,
+    mates: &mut [u32],
+    tree: &mut AlternatingTree,
+    set: &mut [u32],
+    root: u32,
+) -> Option<usize>
+    requires matching { IsMatchingBut graph.now (λ u. u) mates.old [] }
+    requires root { root < length graph.now }
+    requires free { get_or mates.old root 0 ≡ length graph.now }
+    requires room { length graph.now ≤ length set.old }
+    requires clean { IsClean (length set.old) tree.old }
+    ensures none { IfNone result (Augmented graph.now mates.old mates.new root) }
+    ensures some { IfSome result (λ size. (size ≤ length set.new) × IsBarrierSet graph.now (take size set.new)) }
+    ensures set_length { length set.new ≡ length set.old }
+    ensures clean { IsClean (length set.old) tree.new }
 {
-    mates.clear();
-    for _ in 0..nodes {
-        mates.push(nodes)?;
+    tree.begin(graph, mates, root);
+    if search(graph, mates, tree) {
+        tree.clear();
+        return None;
     }
-    Ok(())
+    let nodes = graph.node_count() as usize;
+    let size = collect_inner(&tree.labels.as_slice()[..nodes], set);
+    tree.clear();
+    Some(size)
 }
 
-// The inner nodes, in increasing order.
-fn collect_inner(labels: &[Label], set: &mut Vec<u32>) -> Result<(), NoMemory>
-    requires { length labels.now < 2 ^ 32 }
-    ensures { OnOk result (ListsInner labels.now (length labels.now) set.new.items) }
+// Writes the inner nodes in increasing order, and answers their number.
+fn collect_inner(labels: &[Label], set: &mut [u32]) -> usize
+    requires few { length labels.now < 2 ^ 32 }
+    requires room { length labels.now ≤ length set.old }
+    ensures lists { ListsInner labels.now (length labels.now) (take result set.new) }
+    ensures size { result ≤ length set.new }
+    ensures length { length set.new ≡ length set.old }
 {
-    set.clear();
-    for v in 0..labels.len() {
+    let mut size = 0;
+    for v in 0..labels.len() as u32 {
         if is_inner(labels, v) {
-            set.push(v as u32)?;
+            set[size] = v;
+            size += 1;
         }
     }
-    Ok(())
-}
-
-// Whether a node is inner.
-fn is_inner(labels: &[Label], v: usize) -> bool
-    requires { v < length labels.now }
-    ensures { result ≡ is_inner labels.now v }
-{
-    labels[v] == Label::Inner
+    size
 }

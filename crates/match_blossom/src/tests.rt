@@ -1,3 +1,5 @@
+ghost use Rattle.std.specs.Prelude.{◌≡◌, ℕ, ◌<◌, ◌≤◌, length};
+
 use crate::{Matched, Matcher};
 use match_barrier::{Graph, Scratch, is_barrier, is_perfect};
 use std::process::Abort;
@@ -23,18 +25,33 @@ fn join(graph: &mut Graph, u: u32, v: u32) -> Result<(), Fail> {
     Ok(())
 }
 
-/// Solves a graph and confirms the answer.
+/// Solves a graph in a room of its own and confirms the answer.
 fn confirmed(rt: &(impl Abort + AllocGlobal), graph: &Graph) -> Result<Verdict, Fail> {
     let nodes = graph.node_count();
     let mut matcher = Matcher::reserve(rt.alloc(), nodes, 10000)?;
     let mut scratch = Scratch::reserve(rt.alloc(), nodes)?;
-    match matcher.solve(graph)? {
+    confirmed_in(rt, graph, &mut matcher, &mut scratch)
+}
+
+/// Solves a graph in a room that has served before and confirms the answer.
+fn confirmed_in(
+    rt: &impl Abort,
+    graph: &Graph,
+    matcher: &mut Matcher,
+    scratch: &mut Scratch,
+) -> Result<Verdict, Fail>
+    requires room { length graph.now ≤ matcher.old }
+    requires scratch { length graph.now ≤ scratch.old }
+    ensures room { matcher.new ≡ matcher.old }
+    ensures scratch { scratch.new ≡ scratch.old }
+{
+    match matcher.solve(graph) {
         Matched::Perfect(mates) => {
             assert!(rt; is_perfect(graph, mates));
             Ok(Verdict::Perfect)
         }
         Matched::Barrier(set) => {
-            let odd = is_barrier(graph, set, &mut scratch).ok_or("no barrier")?;
+            let odd = is_barrier(graph, set, scratch).ok_or("no barrier")?;
             Ok(Verdict::Barrier {
                 size: set.len(),
                 odd,
@@ -72,28 +89,96 @@ fn can_pair(rt: &impl Abort, graph: &Graph, paired: u32, depth: u32) -> bool {
     false
 }
 
+/// The graph on so many nodes whose edges are the bits of a number.
+fn small_graph(rt: &(impl Abort + AllocGlobal), nodes: u32, edges: u32) -> Result<Graph, Fail> {
+    let mut graph = Graph::new(rt.alloc(), nodes)?;
+    let mut pair = 0u32;
+    for u in 0..nodes {
+        for v in 0..u {
+            assert!(rt; pair < 32);
+            if edges & (1 << pair) != 0 {
+                join(&mut graph, u, v)?;
+            }
+            pair += 1;
+        }
+    }
+    Ok(graph)
+}
+
+/// Solves each graph on so many nodes, and compares with trying all pairings.
+fn solve_all(
+    rt: &(impl Abort + AllocGlobal),
+    nodes: u32,
+    pairs: u32,
+    matcher: &mut Matcher,
+    scratch: &mut Scratch,
+) -> Result<(), Fail>
+    requires room { matcher.old ≡ 6 }
+    requires scratch { scratch.old ≡ 6 }
+    ensures room { matcher.new ≡ 6 }
+    ensures scratch { scratch.new ≡ 6 }
+{
+    assert!(rt; pairs < 32);
+    for edges in 0u32..1 << pairs {
+        let graph = small_graph(rt, nodes, edges)?;
+        assert!(rt; graph.node_count() <= 6);
+        let verdict = confirmed_in(rt, &graph, matcher, scratch)?;
+        assert!(rt;
+            matches!(verdict, Verdict::Perfect) == can_pair(rt, &graph, 0, 8),
+            "{nodes} nodes, edges {edges}"
+        );
+    }
+    Ok(())
+}
+
 #[test]
 fn all_small_graphs(rt: HostRuntime) -> Result<(), Fail> {
-    for (nodes, pairs) in [(0u32, 0u32), (1, 0), (2, 1), (3, 3), (4, 6), (5, 10)] {
-        assert!(rt; pairs < 32 && nodes < 32);
-        for bits in 0u32..1 << pairs {
-            let mut graph = Graph::new(rt.alloc(), nodes)?;
-            let mut pair = 0u32;
-            for u in 0..nodes {
-                for v in 0..u {
-                    assert!(rt; pair < 32);
-                    if bits & (1 << pair) != 0 {
-                        join(&mut graph, u, v)?;
-                    }
-                    pair += 1;
-                }
-            }
-            let perfect = matches!(confirmed(&rt, &graph)?, Verdict::Perfect);
-            assert!(rt;
-                perfect == can_pair(&rt, &graph, 0, 8),
-                "{nodes} nodes, pairs {bits}"
-            );
-        }
+    let mut matcher = Matcher::reserve(rt.alloc(), 6, 15)?;
+    let mut scratch = Scratch::reserve(rt.alloc(), 6)?;
+    for nodes in 0u32..7 {
+        let pairs = if nodes == 0 {
+            0
+        } else {
+            nodes * (nodes - 1) / 2
+        };
+        solve_all(&rt, nodes, pairs, &mut matcher, &mut scratch)?;
+    }
+    Ok(())
+}
+
+/// A number below a bound, of a row that looks random.
+fn draw(state: &mut u64, bound: u32) -> u32
+    requires { 0 < bound }
+    ensures { result < bound }
+{
+    *state = state
+        .wrapping_mul(6364136223846793005)
+        .wrapping_add(1442695040888963407);
+    ((*state >> 33) % (bound as u64)) as u32
+}
+
+/// A graph of 7 to 40 nodes with up to two edges a node.
+fn random_graph(rt: &impl AllocGlobal, state: &mut u64) -> Result<Graph, Fail> {
+    let nodes = 7 + draw(state, 34);
+    let edges = nodes / 2 + draw(state, 2 * nodes);
+    let mut graph = Graph::new(rt.alloc(), nodes)?;
+    for _ in 0..edges {
+        let u = draw(state, nodes);
+        let v = draw(state, nodes);
+        join(&mut graph, u, v)?;
+    }
+    Ok(graph)
+}
+
+#[test]
+fn random_graphs(rt: HostRuntime) -> Result<(), Fail> {
+    let mut matcher = Matcher::reserve(rt.alloc(), 40, 0)?;
+    let mut scratch = Scratch::reserve(rt.alloc(), 40)?;
+    let mut state = 20261201u64;
+    for _ in 0..200000u32 {
+        let graph = random_graph(&rt, &mut state)?;
+        assert!(rt; graph.node_count() <= 40);
+        confirmed_in(&rt, &graph, &mut matcher, &mut scratch)?;
     }
     Ok(())
 }
@@ -219,6 +304,13 @@ fn triangles(rt: &impl AllocGlobal) -> Result<Graph, Fail> {
     Ok(graph)
 }
 
+/// What the triangles answer: the 49 single nodes, and 51 odd parts.
+const BLOCKED: Verdict = Verdict::Barrier {
+    size: 49,
+    odd: 51,
+    greatest: Some(48),
+};
+
 /// Triangles in a chain: folding the first makes the second a cycle through it, and so on.
 fn nested_cycles(rt: &impl AllocGlobal, nodes: u32) -> Result<Graph, Fail> {
     let mut graph = Graph::new(rt.alloc(), nodes)?;
@@ -252,12 +344,7 @@ fn large_graphs(rt: HostRuntime) -> Result<(), Fail> {
             Verdict::Barrier { odd: 1, .. }
         )
     );
-    let blocked = Verdict::Barrier {
-        size: 49,
-        odd: 51,
-        greatest: Some(48),
-    };
-    assert!(rt; confirmed(&rt, &triangles(&rt)?)? == blocked);
+    assert!(rt; confirmed(&rt, &triangles(&rt)?)? == BLOCKED);
     assert!(rt;
         matches!(
             confirmed(&rt, &nested_cycles(&rt, 501)?)?,
@@ -265,5 +352,22 @@ fn large_graphs(rt: HostRuntime) -> Result<(), Fail> {
         )
     );
     assert!(rt; matches!(confirmed(&rt, &complete(&rt, 60)?)?, Verdict::Perfect));
+    Ok(())
+}
+
+/// One room serves for a thousand calls, in which great and small graphs take turns.
+#[test]
+fn thousand_calls(rt: HostRuntime) -> Result<(), Fail> {
+    let mut matcher = Matcher::reserve(rt.alloc(), 202, 2652)?;
+    let mut scratch = Scratch::reserve(rt.alloc(), 202)?;
+    let blocked = triangles(&rt)?;
+    let paired = complete(&rt, 60)?;
+    assert!(rt; blocked.node_count() <= 202 && paired.node_count() <= 202);
+    for _ in 0..500u32 {
+        let first = confirmed_in(&rt, &blocked, &mut matcher, &mut scratch)?;
+        assert!(rt; first == BLOCKED);
+        let second = confirmed_in(&rt, &paired, &mut matcher, &mut scratch)?;
+        assert!(rt; second == Verdict::Perfect);
+    }
     Ok(())
 }

@@ -1,14 +1,16 @@
-use Rattle.std.proofs.Common.{◌≡◌, ◌≤◌, length}
-use Rattle.match_blossom.specs.Forest.{IsForest, remaining}
+use Rattle.std.proofs.Common.{◌≡◌, ◌≤◌, ◌-◌, ◌+◌, length}
+use Rattle.match_blossom.specs.Forest.{IsForest, IsScanned, KeepsLengths}
 use Rattle.match_blossom.proofs.search.search.Given as goal
 
-abbrev pub invariant-loop-u : goal.invariant-loop-u
-invariant-loop-u l = record {
-  from : l.from ≤ length l.graph;
+abbrev pub invariant-loop-head : goal.invariant-loop-head
+invariant-loop-head l = record {
+  head : l.head ≤ l.tree.queued;
   mates : l.mates ≡ l.initial.mates;
-  forest : IsForest l.graph l.mates l.forest;
-  root : l.forest.root ≡ l.initial.forest.root;
+  forest : IsForest l.graph l.mates l.tree;
+  scanned : IsScanned l.graph l.tree l.head;
+  root : l.tree.root ≡ l.initial.tree.root;
+  lengths : KeepsLengths l.initial.tree l.tree;
 }
 
-abbrev pub decreases-loop-u : goal.decreases-loop-u
-decreases-loop-u l = remaining (length l.graph) l.forest.part.items l.forest.labels.items
+abbrev pub decreases-loop-head : goal.decreases-loop-head
+decreases-loop-head l = length l.graph + length l.graph - l.head

@@ -1,8 +1,0 @@
-use Rattle.std.proofs.Common.{◌≡◌, ℕ, ◌<◌, length, get_or}
-use Rattle.match_blossom.proofs.forest.Forest.new.Given as goal
-
-abbrev pub invariant-loop-v : goal.invariant-loop-v
-invariant-loop-v l = record {
-  count : length l.part.items ≡ l.v;
-  own : (k : ℕ) → k < l.v → get_or l.part.items k 0 ≡ k;
-}
