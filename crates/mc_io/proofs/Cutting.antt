@@ -1,31 +1,11 @@
--- How the line at the front of bytes is found.
+-- The text of a piece.
 use Rattle.std.proofs.Common.{arith, ◌≡◌, ◌≢◌, ◌∙◌, ℕ, suc, ◌+◌, ◌<◌, ◌≤◌, ◌==◌, ◌&&◌, nat_lt, Bool, true, false, not, if◌then◌else◌, List, [], ◌∷◌, ◌++◌, length, take, drop, map, get_or, refl, ap, sym, subst, add-one}
 use Rattle.std.specs.List.{list_all}
 use Rattle.std.proofs.lemmas.Bool.Decides.{nat_tests}
 use Rattle.std.proofs.lemmas.List.{length-take-le, drop_all, take_more, take-take}
-use Rattle.mc_io.specs.Lines.{line_feed, carriage_return, onto_first, pieces, onto_text, text_of, most_bytes, is_long, line_of, lines_of}
-use Rattle.mc_io.specs.Fronts.{piece_len, shown}
+use Rattle.mc_io.specs.Lines.{carriage_return, onto_text, text_of}
 
--- ---- the first piece
-
-abbrev Begins : ℕ → List ℕ → Bool → Type 0
-Begins b bytes t =
-    (if t then [] ∷ pieces bytes else onto_first b (pieces bytes))
-    ≡ take (if t then 0 else suc (piece_len bytes)) (b ∷ bytes) ∷ pieces (drop (suc (if t then 0 else suc (piece_len bytes))) (b ∷ bytes))
-
-at_front : (bytes : List ℕ) → 0 < length bytes → pieces bytes ≡ take (piece_len bytes) bytes ∷ pieces (drop (suc (piece_len bytes)) bytes)
-at_front [] some = absurd (omega arith)
-at_front (b ∷ []) some = elim (b == line_feed) as (Begins b []) [ true ↦ refl | false ↦ refl ]
-at_front (b ∷ c ∷ bytes) some =
-    let later = at_front (c ∷ bytes) (omega arith) in
-    elim (b == line_feed) as (Begins b (c ∷ bytes)) [ true ↦ refl | false ↦ ap (onto_first b) later ]
-
-pub first_piece : (bytes : List ℕ) → 0 < length bytes → pieces bytes ≡ take (piece_len bytes) bytes ∷ pieces (drop (piece_len bytes + 1) bytes)
-first_piece bytes some = at_front bytes some ∙ ap (λ n. take (piece_len bytes) bytes ∷ pieces (drop n bytes)) (sym (add-one (piece_len bytes)))
-
--- ---- the text of a piece
-
-text_len_le : (piece : List ℕ) → length (text_of piece) ≤ length piece
+pub text_len_le : (piece : List ℕ) → length (text_of piece) ≤ length piece
 text_len_le [] = omega arith
 text_len_le (b ∷ piece) = onto b (text_of piece) (length piece) (text_len_le piece)
   where
@@ -33,7 +13,7 @@ text_len_le (b ∷ piece) = onto b (text_of piece) (length piece) (text_len_le p
     onto b [] n le = elim (b == carriage_return) as (λ t. length (if t then [] else b ∷ []) ≤ suc n) [ true ↦ omega arith | false ↦ omega arith ]
     onto b (c ∷ text) n le = omega arith
 
-text_front : (piece : List ℕ) → take (length (text_of piece)) piece ≡ text_of piece
+pub text_front : (piece : List ℕ) → take (length (text_of piece)) piece ≡ text_of piece
 text_front [] = refl
 text_front (b ∷ piece) = onto b (text_of piece) piece (text_front piece)
   where
@@ -70,28 +50,6 @@ text_of_other (c ∷ piece) b other = ap (onto_text c) (text_of_other piece b ot
     onto : (c : ℕ) (piece : List ℕ) (b : ℕ) → onto_text c (piece ++ b ∷ []) ≡ c ∷ piece ++ b ∷ []
     onto c [] b = refl
     onto c (d ∷ piece) b = refl
-
--- ---- the line at the front
-
-pub line_at_front : (bytes : List ℕ) (end text : ℕ) (long : Bool) → 0 < length bytes → end ≡ piece_len bytes → end ≤ length bytes
-    → text ≡ length (text_of (take end bytes)) → long ≡ (nat_lt most_bytes end && nat_lt 0 text)
-    → lines_of bytes ≡ shown long (take text bytes) ∷ lines_of (drop (end + 1) bytes)
-line_at_front bytes end text long some is within texts longs =
-    let piece : List ℕ = take end bytes in
-    let count : length piece ≡ end = length-take-le end bytes within in
-    let cut : pieces bytes ≡ piece ∷ pieces (drop (end + 1) bytes) = subst (λ n. pieces bytes ≡ take n bytes ∷ pieces (drop (n + 1) bytes)) (sym is) (first_piece bytes some) in
-    let less : text ≤ end = let le = text_len_le piece in omega arith in
-    let front : take text bytes ≡ text_of piece = sym (take-take text end bytes less) ∙ ap (λ n. take n piece) texts ∙ text_front piece in
-    let same : long ≡ is_long piece = longs ∙ rw (count, some_text piece) (ap (λ n. nat_lt most_bytes end && nat_lt 0 n) texts) in
-    ap (map line_of) cut ∙ ap (λ line. line ∷ lines_of (drop (end + 1) bytes)) (sym (ap (λ t. shown t (take text bytes)) same ∙ ap (shown (is_long piece)) front))
-
--- the last line has no line feed
-pub last_line_at_front : (bytes : List ℕ) (end text : ℕ) (long : Bool) → 0 < length bytes → end ≡ piece_len bytes → end ≤ length bytes → length bytes ≤ end
-    → text ≡ length (text_of (take end bytes)) → long ≡ (nat_lt most_bytes end && nat_lt 0 text)
-    → lines_of bytes ≡ shown long (take text bytes) ∷ lines_of (drop end bytes)
-last_line_at_front bytes end text long some is within last texts longs =
-    line_at_front bytes end text long some is within texts longs
-    ∙ ap (λ rest. shown long (take text bytes) ∷ lines_of rest) (drop_all (end + 1) bytes (omega arith) ∙ sym (drop_all end bytes last))
 
 -- ---- the loop from the end of a piece
 

@@ -1,5 +1,6 @@
+pub mod Buffered
 pub mod Causes
-pub mod Fronts
+pub mod FoundLines
 pub mod Inputs
 pub mod InputsTaken
 pub mod LineReader

@@ -1,16 +1,19 @@
 -- What a reader of lines has, and what its answers say.
-use Rattle.std.specs.Prelude.{◌≡◌, ℕ, ◌+◌, ◌<◌, ◌≤◌, ◌^◌, Bool, true, false, IsTrue, List, [], ◌∷◌, ◌++◌, length, Option, Some, None, ⊤}
+use Rattle.std.specs.Prelude.{◌≡◌, ℕ, ◌+◌, ◌<◌, ◌≤◌, ◌^◌, Bool, true, false, IsTrue, List, [], ◌∷◌, ◌++◌, length, take, drop, Option, Some, None, ⊤}
 use Rattle.std.specs.Io.KnownBytes.{IsAtEnd, prepend_known}
 use Rattle.mc_io.specs.declared.lines.LineStep.{LineStep}
 use Rattle.mc_io.specs.declared.lines.LineStep.TheVariants.{Line, TooLong, End, ReadFault, InputLimit, NoMemory}
-use Rattle.mc_io.specs.declared.whole.ReadStop.{ReadStop}
-use Rattle.mc_io.specs.declared.whole.ReadStop.TheVariants.{ReadFault as ReadFailed, InputLimit as LimitReached, NoMemory as MemoryOut}
-use Rattle.mc_io.specs.Lines.{lines_of}
+use Rattle.mc_io.specs.declared.read_stop.ReadStop.{ReadStop}
+use Rattle.mc_io.specs.declared.read_stop.ReadStop.TheVariants.{ReadFault as ReadFailed, InputLimit as LimitReached, NoMemory as MemoryOut}
+use Rattle.mc_io.specs.Buffered.{Buffered, most_read}
+use Rattle.mc_io.specs.declared.line_finding.FoundLine.{FoundLine}
+use Rattle.mc_io.specs.FoundLines.{most_room, text_len}
+use Rattle.mc_io.specs.Lines.{ended_lines, lines_of}
 use Rattle.mc_io.specs.Outside.{Input, Takes}
 
--- a reader of lines: the number of its input; the bytes that were read and aren't passed; how many bytes its reads have
--- taken; whether they have met the end; how many lines were passed; the text of the line that was given last; and
--- the last answer
+-- A reader of lines: the number of its input; the bytes that were read and aren't passed; how many bytes its reads have
+-- taken; whether they have met the end; how many lines were passed; the text of the line that was given last; the last
+-- answer; and how many bytes it has room for.
 pub record LineReader : Type 0 where
   pub input : ℕ
   pub held : List ℕ
@@ -19,10 +22,11 @@ pub record LineReader : Type 0 where
   pub passed : ℕ
   pub text : List ℕ
   pub answer : Option LineStep
+  pub room : ℕ
 
 -- a reader that has read nothing yet
 abbrev pub fresh : ℕ → LineReader
-fresh input = record { input = input; held = []; taken = 0; ended = false; passed = 0; text = []; answer = None }
+fresh input = record { input = input; held = []; taken = 0; ended = false; passed = 0; text = []; answer = None; room = 0 }
 
 -- Its reads took these bytes of its input and no others, and it counts them. It has met the end where the source says so.
 pub record Reading (old new : LineReader) (before after : Input) : Type 0 where
@@ -83,12 +87,60 @@ step_of ReadFailed = ReadFault
 step_of LimitReached = InputLimit
 step_of MemoryOut = NoMemory
 
--- what a reader keeps true of its bytes, where the next line begins in them, and where the text given last stands
-pub record IsSound (bytes : List ℕ) (input at passed taken : ℕ) (ended : Bool) (text_from text_len : ℕ) (answer : Option LineStep) : Type 0 where
-  pub in_range : input < 3
-  pub within : at ≤ length bytes
-  pub few : passed ≤ at
-  pub text : text_from + text_len ≤ length bytes
-  pub small : taken < 2 ^ 65
-  pub unread : ended ≡ false → bytes ≡ []
-  pub untaken : ended ≡ false → MayGoOn answer → taken ≡ 0
+-- ---- lines and the bytes that were taken for them
+
+-- Of the bytes that are held and those that a call takes, the lines that it gives are those that end first, whatever
+-- stands behind. At the end of the input there may be no line feed behind the last line.
+pub record GivesEnded (lines : List (Option (List ℕ))) (old new : LineReader) (before after : Input) : Type 0 where
+  pub bytes : List ℕ
+  pub takes : Takes before after bytes
+  pub taken : new.taken ≡ old.taken + length bytes
+  pub going : new.ended ≡ false → old.ended ≡ false
+  pub ended : new.ended ≡ false → (later : List ℕ) → ended_lines ((old.held ++ bytes) ++ later) ≡ lines ++ ended_lines (new.held ++ later)
+
+-- A call that stops gives no line: `last` was taken by its last read, and none ends in what was held and what was read
+-- before it, which is within the limit.
+pub record EndsNone (limit : ℕ) (old new : LineReader) (before after : Input) (last : List ℕ) : Type 0 where
+  pub front : List ℕ
+  pub takes : Takes before after (front ++ last)
+  pub taken : new.taken ≡ old.taken + length (front ++ last)
+  pub few : length last ≤ most_read
+  pub going : old.ended ≡ false
+  pub none : ended_lines (old.held ++ front) ≡ []
+  pub within : old.taken ≤ limit → old.taken + length front ≤ limit
+
+-- Which lines end in the bytes that a call takes.
+abbrev pub Ends : ℕ → LineStep → LineReader → LineReader → Input → Input → Type 0
+Ends limit Line old new before after = GivesEnded (Some new.text ∷ []) old new before after
+Ends limit (TooLong k) old new before after = GivesEnded (None ∷ []) old new before after
+Ends limit End old new before after = IsTrue new.ended
+Ends limit ReadFault old new before after = EndsNone limit old new before after []
+Ends limit InputLimit old new before after = (last : List ℕ) × EndsNone limit old new before after last
+Ends limit NoMemory old new before after = ⊤
+
+-- the answer where a line of this number was found
+abbrev pub step_of_text : Option ℕ → ℕ → LineStep
+step_of_text None number = TooLong number
+step_of_text (Some len) number = Line
+
+-- a reader with this buffer, which holds the line that was passed last in front
+abbrev pub reader_of : Buffered → ℕ → FoundLine → Option LineStep → LineReader
+reader_of buffer passed line answer = record {
+  input = buffer.input;
+  held = drop line.whole buffer.held;
+  taken = buffer.taken;
+  ended = buffer.ended;
+  passed = passed;
+  text = take (text_len line.text) buffer.held;
+  answer = answer;
+  room = buffer.room;
+}
+
+-- what it keeps true of them
+pub record IsSound (buffer : Buffered) (passed : ℕ) (line : FoundLine) (answer : Option LineStep) : Type 0 where
+  pub text : text_len line.text ≤ line.whole
+  pub whole : line.whole ≤ length buffer.held
+  pub few : passed + length (drop line.whole buffer.held) ≤ buffer.taken
+  pub room : buffer.room ≤ most_room
+  pub small : MayGoOn answer → buffer.taken < 2 ^ 64
+  pub beyond : MayGoOn answer → length (drop line.whole buffer.held) ≤ most_read

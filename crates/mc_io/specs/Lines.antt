@@ -43,6 +43,21 @@ line_of piece = if is_long piece then None else Some (text_of piece)
 abbrev pub lines_of : List ℕ → List (Option (List ℕ))
 lines_of bytes = map line_of (pieces bytes)
 
+-- ---- lines that have ended, whatever bytes come next
+
+-- a byte before the first of the pieces that have ended, where there is one
+abbrev pub onto_ended : ℕ → List (List ℕ) → List (List ℕ)
+onto_ended b [] = []
+onto_ended b (piece ∷ pieces) = (b ∷ piece) ∷ pieces
+
+-- the pieces that line feeds end; what stands behind the last line feed is none
+abbrev pub ended_pieces : List ℕ → List (List ℕ)
+ended_pieces [] = []
+ended_pieces (b ∷ bytes) = if b == line_feed then [] ∷ ended_pieces bytes else onto_ended b (ended_pieces bytes)
+
+abbrev pub ended_lines : List ℕ → List (Option (List ℕ))
+ended_lines bytes = map line_of (ended_pieces bytes)
+
 -- ---- the same said of the whole
 
 -- behind a piece stands a line feed, and the rest is cut into the later pieces

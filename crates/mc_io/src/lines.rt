@@ -1,9 +1,11 @@
-ghost use Rattle.std.specs.Prelude.{◌≡◌, ℕ, List};
-ghost use Rattle.mc_io.specs.Lines.{AreCut, IsTextOf, pieces, text_of};
+ghost use Rattle.std.specs.Prelude.{◌≡◌, ℕ, ◌∷◌, ◌++◌, [], false, List};
+ghost use Rattle.mc_io.specs.LineReader.{step_of_text};
+ghost use Rattle.mc_io.specs.Lines.{AreCut, IsTextOf, ended_lines, has_feed, line_feed, lines_of, pieces, text_of};
 
 use crate::Source;
-use crate::first_line::first_line;
-use crate::whole::{ReadStop, read_whole};
+use crate::input_buffer::InputBuffer;
+use crate::line_finding::{FoundLine, find_line};
+use crate::read_stop::ReadStop;
 use mc_base::NoMemory;
 use std::alloc::Global;
 use std::marker::Model;
@@ -37,39 +39,52 @@ impl From<ReadStop> for LineStep {
     }
 }
 
+/// No line, at the front of any bytes.
+const NO_LINE: FoundLine = FoundLine {
+    text: None,
+    whole: 0,
+};
+
+/// The answer where a line of this number was found.
+fn found_step(text: Option<usize>, number: u64) -> LineStep
+    ensures { result ≡ step_of_text text number }
+{
+    match text {
+        Some(_) => LineStep::Line,
+        None => LineStep::TooLong(number),
+    }
+}
+
 /// A reader that cuts an input into lines. A line is ended by a line feed, or by the end of the input; the
 /// carriage returns before that aren't given with it.
 #[derive(Drop)]
 pub struct Lines {
-    input: u32,
-    bytes: Vec<u8>,
-    taken: u128,
-    ended: bool,
-    /// where the next line begins
-    at: usize,
+    buffer: InputBuffer,
+    /// how many lines were passed
     passed: u64,
-    text_from: usize,
-    text_len: usize,
+    /// the line that was passed last; it is held until the next is asked for
+    line: FoundLine,
     answer: Option<LineStep>,
 }
 
 impl Model for Lines {
-    ghost use Rattle.std.specs.Prelude.{take, drop};
-    ghost use Rattle.mc_io.specs.LineReader.{LineReader, IsSound};
+    ghost use Rattle.mc_io.specs.LineReader.{LineReader, IsSound, reader_of};
 
     ghost Value = { LineReader };
 
-    ghost view = { λ r. record { input = r.input; held = drop r.at r.bytes.items; taken = r.taken; ended = r.ended; passed = r.passed; text = take r.text_len (drop r.text_from r.bytes.items); answer = r.answer } };
+    ghost view = { λ r. reader_of r.buffer r.passed r.line r.answer };
 
-    ghost invariant = { λ r. IsSound r.bytes.items r.input r.at r.passed r.taken r.ended r.text_from r.text_len r.answer };
+    ghost invariant = { λ r. IsSound r.buffer r.passed r.line r.answer };
 }
 
 impl Lines {
     ghost use Rattle.std.specs.Prelude.{◌↔◌, ◌+◌, ◌<◌, ◌≤◌, ◌^◌, ◌⊎◌, false, true, IfOk, IsTrue, Some, length};
     ghost use Rattle.mc_io.specs.Causes.{Rose};
     ghost use Rattle.mc_io.specs.Outside.{SameBut};
-    ghost use Rattle.mc_io.specs.Lines.{IsLineText, most_bytes};
-    ghost use Rattle.mc_io.specs.LineReader.{MayGoOn, Gives, IsNoStop, Reading, ahead, fresh, lines_passed};
+    ghost use Rattle.mc_io.specs.Lines.{IsLineText, has_feed, most_bytes};
+    ghost use Rattle.mc_io.specs.Buffered.{most_read};
+    ghost use Rattle.mc_io.specs.FoundLines.{most_room};
+    ghost use Rattle.mc_io.specs.LineReader.{MayGoOn, Ends, Gives, IsNoStop, Reading, ahead, fresh, lines_passed};
 
     /// A reader of an input, which has read nothing yet.
     pub fn new(alloc: Global, input: u32) -> Result<Lines, NoMemory>
@@ -77,14 +92,9 @@ impl Lines {
         ensures { IfOk result (λ lines. lines ≡ fresh input) }
     {
         Ok(Lines {
-            input,
-            bytes: Vec::new(alloc),
-            taken: 0,
-            ended: false,
-            at: 0,
+            buffer: InputBuffer::new(alloc, input),
             passed: 0,
-            text_from: 0,
-            text_len: 0,
+            line: NO_LINE,
             answer: None,
         })
     }
@@ -100,9 +110,17 @@ impl Lines {
         ensures text { result ≡ LineStep.Line → IsLineText self.new.text }
         ensures few_lines { self.new.passed < 2 ^ 64 }
 
-        // What was taken of the input, and nothing of the others.
+        // What was taken of the input, which is nothing where a whole line is held, and nothing of the others.
         ensures reading { Reading self.old self.new (S.inputs source.old self.old.input) (S.inputs source.new self.old.input) }
+        ensures unread { has_feed self.old.held ≡ true → S.inputs source.new self.old.input ≡ S.inputs source.old self.old.input }
         ensures others { SameBut self.old.input (S.inputs source.old) (S.inputs source.new) }
+
+        // What was taken beyond the line, and what is kept.
+        ensures beyond { IsNoStop result → length self.new.held ≤ most_read }
+        ensures room { self.new.room ≤ most_room }
+
+        // Which lines ended in what was taken: the line that is given did, and where a read stops no other did.
+        ensures ends { Ends S.LIMIT result self.old self.new (S.inputs source.old self.old.input) (S.inputs source.new self.old.input) }
 
         // Each stop has its cause.
         ensures fault { result ≡ LineStep.ReadFault → Rose (S.inputs source.old self.old.input).faults (S.inputs source.new self.old.input).faults }
@@ -110,17 +128,19 @@ impl Lines {
         ensures end { result ≡ LineStep.End → IsTrue self.new.ended }
         ensures not_ended { (result ≡ LineStep.ReadFault) ⊎ (result ≡ LineStep.InputLimit) → (S.inputs source.new self.old.input).ended ≡ false }
     {
-        if self.ended {
-            return self.give();
-        }
-        let alloc = *self.bytes.allocator();
-        let reading = read_whole(alloc, source, self.input);
-        self.taken = reading.taken;
-        match reading.end {
-            Ok(()) => {
-                self.bytes = reading.bytes;
-                self.ended = true;
-                self.give()
+        self.buffer.pass(self.line.whole);
+        self.line = NO_LINE;
+        match find_line(&mut self.buffer, source) {
+            Ok(Some(line)) => {
+                self.line = line;
+                self.passed += 1;
+                let step = found_step(line.text, self.passed);
+                self.answer = Some(step);
+                step
+            }
+            Ok(None) => {
+                self.answer = Some(LineStep::End);
+                LineStep::End
             }
             Err(stop) => {
                 let step = LineStep::from(stop);
@@ -130,51 +150,12 @@ impl Lines {
         }
     }
 
-    /// Passes the next line of the bytes that were read, and notes the answer.
-    fn give(&mut self) -> LineStep
-        requires { self.old.ended ≡ true }
-        ensures step { Gives result (Some self.old.held) (Some self.new.held) self.new.text self.new.passed }
-        ensures passed { self.new.passed ≡ self.old.passed + lines_passed result }
-        ensures short { result ≡ LineStep.Line → length self.new.text ≤ most_bytes }
-        ensures text { result ≡ LineStep.Line → IsLineText self.new.text }
-        ensures goes_on { IsNoStop result }
-        ensures kept { self.new ≡ record self.old { held = self.new.held; passed = self.new.passed; text = self.new.text; answer = Some result } }
-    {
-        let step = self.pass();
-        self.answer = Some(step);
-        step
-    }
-
-    /// Passes the next line of the bytes that were read.
-    fn pass(&mut self) -> LineStep
-        ensures step { Gives result (Some self.old.held) (Some self.new.held) self.new.text self.new.passed }
-        ensures passed { self.new.passed ≡ self.old.passed + lines_passed result }
-        ensures short { result ≡ LineStep.Line → length self.new.text ≤ most_bytes }
-        ensures text { result ≡ LineStep.Line → IsLineText self.new.text }
-        ensures goes_on { IsNoStop result }
-        ensures kept { self.new ≡ record self.old { held = self.new.held; passed = self.new.passed; text = self.new.text } }
-    {
-        if self.at == self.bytes.len() {
-            return LineStep::End;
-        }
-        let line = first_line(&self.bytes[self.at..]);
-        self.text_from = self.at;
-        self.text_len = line.text;
-        self.at += line.whole;
-        self.passed += 1;
-        if line.is_long {
-            LineStep::TooLong(self.passed)
-        } else {
-            LineStep::Line
-        }
-    }
-
-    /// The line that was given last.
+    /// The line that was given last, without its end.
     pub fn line(&self) -> &[u8]
         requires { self.now.answer ≡ Some LineStep.Line }
         ensures { result.now ≡ self.now.text }
     {
-        &self.bytes[self.text_from..self.text_from + self.text_len]
+        &self.buffer.held()[..self.line.text.unwrap_or(0)]
     }
 }
 
@@ -184,6 +165,10 @@ pub fn lines_law()
     ensures cut { (bytes : List ℕ) → AreCut (pieces bytes) bytes }
     ensures one { (parts : List (List ℕ)) (bytes : List ℕ) → AreCut parts bytes → parts ≡ pieces bytes }
     ensures text { (piece : List ℕ) → IsTextOf piece (text_of piece) }
+
+    // The lines that have ended are those up to the last line feed.
+    ensures ended { (front rest : List ℕ) → has_feed rest ≡ false → ended_lines (front ++ line_feed ∷ rest) ≡ lines_of (front ++ line_feed ∷ []) }
+    ensures none_ended { (bytes : List ℕ) → has_feed bytes ≡ false → ended_lines bytes ≡ [] }
 {}
 
 #[cfg(test)]

@@ -1,5 +1,4 @@
 use super::*;
-use crate::whole::read_whole;
 use std::alloc::Global;
 use std::test::Fail;
 
@@ -10,42 +9,13 @@ fn inputs(alloc: Global) -> Result<Vec<Vec<u8>>, Fail> {
 }
 
 #[test]
-fn every_cut_gives_the_same_bytes(rt: HostRuntime) -> Result<(), Fail> {
+fn every_cut_holds_the_same_bytes(rt: HostRuntime) -> Result<(), Fail> {
     let alloc = rt.alloc();
     for piece in 1..14 {
-        let mut source = MemorySource::<12>::new(inputs(alloc)?, piece, Vec::new(alloc));
-        let reading = read_whole(alloc, &mut source, 0);
-        assert_eq!(rt; reading.end, Ok(()), "read by {piece}");
-        assert_eq!(rt;
-            reading.bytes.as_slice(),
-            INPUT.as_slice(),
-            "read by {piece}"
-        );
         let mut sink = MemorySink::new(alloc, 20, piece, Vec::new(alloc))?;
-        assert!(rt;
-            put_all(&mut sink, 1, &reading.bytes).is_ok(),
-            "written by {piece}"
-        );
+        assert!(rt; put_all(&mut sink, 1, INPUT).is_ok(), "written by {piece}");
         assert_eq!(rt; sink.bytes(1), INPUT.as_slice(), "written by {piece}");
         assert_eq!(rt; sink.bytes(0), [].as_slice());
-    }
-    Ok(())
-}
-
-// By pieces of 5 bytes the input takes three reads and one that gives its end.
-#[test]
-fn a_read_fails_at_its_call(rt: HostRuntime) -> Result<(), Fail> {
-    let alloc = rt.alloc();
-    for call in 1..6u64 {
-        let fail = vec![in alloc; call]?;
-        let mut source = MemorySource::<12>::new(inputs(alloc)?, 5, fail);
-        let stop = read_whole(alloc, &mut source, 0).end.err();
-        let want = if call < 5 {
-            Some(ReadStop::ReadFault)
-        } else {
-            None
-        };
-        assert_eq!(rt; stop, want, "at call {call}");
     }
     Ok(())
 }
@@ -63,15 +33,6 @@ fn a_write_fails_at_its_call(rt: HostRuntime) -> Result<(), Fail> {
 }
 
 #[test]
-fn an_input_stops_at_the_limit(rt: HostRuntime) -> Result<(), Fail> {
-    let alloc = rt.alloc();
-    let mut source = MemorySource::<11>::new(inputs(alloc)?, 4, Vec::new(alloc));
-    let stop = read_whole(alloc, &mut source, 0).end.err();
-    assert_eq!(rt; stop, Some(ReadStop::InputLimit));
-    Ok(())
-}
-
-#[test]
 fn a_sink_takes_what_it_has_room_for(rt: HostRuntime) -> Result<(), Fail> {
     let alloc = rt.alloc();
     let mut sink = MemorySink::new(alloc, 7, 5, Vec::new(alloc))?;
@@ -84,11 +45,14 @@ fn a_sink_takes_what_it_has_room_for(rt: HostRuntime) -> Result<(), Fail> {
 fn safe_objects_never_fail(rt: HostRuntime) -> Result<(), Fail> {
     let alloc = rt.alloc();
     let mut source = SafeSource::<12>::new(inputs(alloc)?, 5);
-    let reading = read_whole(alloc, &mut source, 0);
-    assert_eq!(rt; reading.end, Ok(()));
-    assert_eq!(rt; reading.bytes.as_slice(), INPUT.as_slice());
-    let past = read_whole(alloc, &mut source, 1);
-    assert!(rt; past.bytes.is_empty());
-    assert!(rt; put_all(&mut SafeSink::new(), 0, &reading.bytes).is_ok());
+    let mut lines = Lines::new(alloc, 0)?;
+    assert_eq!(rt; lines.next(&mut source), LineStep::Line);
+    assert_eq!(rt; lines.line(), b"CC(N)O".as_slice());
+    assert_eq!(rt; lines.next(&mut source), LineStep::Line);
+    assert_eq!(rt; lines.line(), b"C(C)N".as_slice());
+    assert_eq!(rt; lines.next(&mut source), LineStep::End);
+    let mut past = Lines::new(alloc, 1)?;
+    assert_eq!(rt; past.next(&mut source), LineStep::End);
+    assert!(rt; put_all(&mut SafeSink::new(), 0, INPUT).is_ok());
     Ok(())
 }

@@ -1,6 +1,6 @@
 use Rattle.std.proofs.Common.{◌≡◌, ◌≤◌, length, take}
 use Rattle.mc_io.specs.Lines.{text_of}
-use Rattle.mc_io.proofs.first_line.text_len.Given as goal
+use Rattle.mc_io.proofs.line_text.text_len.Given as goal
 
 abbrev pub invariant-loop-len : goal.invariant-loop-len
 invariant-loop-len l = record {

@@ -2,7 +2,7 @@ use Rattle.std.proofs.Common.{arith, ◌≡◌, ◌-◌, ◌+◌, ◌<◌, ◌�
 use Rattle.std.proofs.lemmas.List.{length-take-le}
 use Rattle.mc_io.specs.Lines.{text_of}
 use Rattle.mc_io.proofs.Cutting.{text_behind, text_ends}
-use Rattle.mc_io.proofs.first_line.text_len.Goals as goal
+use Rattle.mc_io.proofs.line_text.text_len.Goals as goal
 
 pub loop-len-preserved : goal.loop-len-preserved
 loop-len-preserved c =
