@@ -3,6 +3,7 @@ use Rattle.std.proofs.Common.{arith, ◌≡◌, ◌∙◌, ℕ, zero, suc, ◌+�
 use Rattle.std.specs.Prelude.{◌&&◌, nat_eq, nat_le, drop, slice_get}
 use Rattle.std.proofs.lemmas.Bool.Decides.{nat_tests}
 use Rattle.std.proofs.lemmas.List.{append-nil, append_assoc, reverse-append}
+use Rattle.std.proofs.lemmas.Option.{same_Some}
 use Rattle.smi_graph.specs.declared.role.Role.{Role}
 use Rattle.smi_graph.specs.declared.role.Role.TheVariants.{Atom, Bond, Ring, Enter, Leave, Dot}
 use Rattle.smi_graph.specs.Order.{depth, depth_behind, stays_open, is_enter, tokens_before, unclosed_at}
@@ -12,9 +13,6 @@ use Rattle.smi_graph.proofs.Unmatched.{stays_open_is}
 
 no_depth : (e : ℕ) → None ≡ Some e → ⊥
 no_depth e h = cc
-
-same_depth : (d e : ℕ) → Some d ≡ Some e → d ≡ e
-same_depth d e h = cc
 
 -- going on behind some tokens
 onto : (k : Role) (later before : List Role) → depth (reverse (k ∷ later) ++ before) ≡ depth (reverse later ++ k ∷ before)
@@ -27,7 +25,7 @@ none_on (k ∷ later) before e none is = none_on later (k ∷ before) e (ap (λ 
 
 -- the depth falls by no more than the `)` that close what was open before
 falls : (later before : List Role) (d e : ℕ) → depth before ≡ Some d → depth (reverse later ++ before) ≡ Some e → d ≤ e + unmatched later
-falls [] before d e is ends = let s = same_depth d e (sym is ∙ ends) in omega arith
+falls [] before d e is ends = let s = same_Some d e (sym is ∙ ends) in omega arith
 falls (Atom lower ∷ later) before d e is ends = falls later (Atom lower ∷ before) d e (ap (λ (o : Option ℕ). depth_behind o (Atom lower)) is) (sym (onto (Atom lower) later before) ∙ ends)
 falls (Bond mark ∷ later) before d e is ends = falls later (Bond mark ∷ before) d e (ap (λ (o : Option ℕ). depth_behind o (Bond mark)) is) (sym (onto (Bond mark) later before) ∙ ends)
 falls (Ring number ∷ later) before d e is ends = falls later (Ring number ∷ before) d e (ap (λ (o : Option ℕ). depth_behind o (Ring number)) is) (sym (onto (Ring number) later before) ∙ ends)

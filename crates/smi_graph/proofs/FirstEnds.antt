@@ -3,13 +3,11 @@ use Rattle.std.proofs.Common.{arith, ◌≡◌, ◌∙◌, ℕ, zero, suc, ◌+�
 use Rattle.std.specs.Prelude.{◌⊎◌, nat_lt, if◌then◌else◌}
 use Rattle.std.proofs.lemmas.Bool.{cases_lt, cases_eq}
 use Rattle.std.proofs.lemmas.Bool.Decides.{nat_tests}
+use Rattle.std.proofs.lemmas.Option.{same_Some}
 use Rattle.smi_graph.specs.declared.ring_table.RingEnd.{RingEnd}
 use Rattle.smi_graph.specs.declared.role.Role.{Role}
 use Rattle.smi_graph.specs.Bonds.{open_end}
 use Rattle.smi_graph.specs.RingTables.{lesser, IsFirstEnd, IsFirstOpen}
-
-same_end : (a b : RingEnd) → Some a ≡ Some b → a ≡ b
-same_end a b h = cc
 
 no_end : (a : RingEnd) → None ≡ Some a → ⊥
 no_end a h = cc
@@ -23,7 +21,7 @@ one_more ends i None None is h = λ n less. elim (cases_eq n i) [
 one_more ends i None (Some end) is h = (
   (i, end, is, refl),
   λ n other less at. elim (cases_eq n i) [
-    | inl e ↦ let same : end ≡ other = same_end end other (sym is ∙ (ap (λ (x : ℕ). get_or ends x None) (sym e) ∙ at)) in let t = ap (λ (x : RingEnd). x.token) same in omega arith
+    | inl e ↦ let same : end ≡ other = same_Some end other (sym is ∙ (ap (λ (x : ℕ). get_or ends x None) (sym e) ∙ at)) in let t = ap (λ (x : RingEnd). x.token) same in omega arith
     | inr ne ↦ absurd (no_end other (sym (h n (omega arith)) ∙ at))
   ],
 )
@@ -38,7 +36,7 @@ one_more ends i (Some token) (Some end) is h = by_test (nat_lt end.token token) 
   where
     later : (n : ℕ) (other : RingEnd) → n < i + 1 → get_or ends n None ≡ Some other → (end.token ≤ other.token) ⊎ (token ≤ other.token)
     later n other less at = elim (cases_eq n i) [
-      | inl e ↦ let same : end ≡ other = same_end end other (sym is ∙ (ap (λ (x : ℕ). get_or ends x None) (sym e) ∙ at)) in let t = ap (λ (x : RingEnd). x.token) same in inl (omega arith)
+      | inl e ↦ let same : end ≡ other = same_Some end other (sym is ∙ (ap (λ (x : ℕ). get_or ends x None) (sym e) ∙ at)) in let t = ap (λ (x : RingEnd). x.token) same in inl (omega arith)
       | inr ne ↦ inr (h.1 n other (omega arith) at)
     ]
 

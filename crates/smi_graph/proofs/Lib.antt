@@ -16,3 +16,5 @@ pub mod Together
 pub mod Ahead
 pub mod Closed
 pub mod Placing
+pub mod Plain
+pub mod CandidateMarks

@@ -2,7 +2,7 @@
 use Rattle.std.proofs.Common.{arith, ◌≡◌, ◌∙◌, ℕ, ◌+◌, ◌-◌, ◌<◌, List, [], length, drop, true, false, Some, None, refl, ap, sym, subst, inl, inr, length-drop}
 use Rattle.std.specs.Prelude.{◌⊎◌}
 use Rattle.mc_base.specs.declared.kind.Kind.{Kind}
-use Rattle.mc_base.specs.declared.kind.Kind.TheVariants.{NotBuilt, BadToken, Wildcard, OtherChirality, BadOrder, ParenOpen, RingOpen, RingClash, RingPair, LimitAtoms, LimitBonds, LimitRings, LimitIsotope, LimitClass, LimitCharge}
+use Rattle.mc_base.specs.declared.kind.Kind.TheVariants.{NotBuilt, BadToken, Wildcard, OtherChirality, BadOrder, ParenOpen, RingOpen, RingClash, RingPair, AromaticBond, LimitAtoms, LimitBonds, LimitRings, LimitIsotope, LimitClass, LimitCharge}
 use Rattle.mc_base.specs.Kinds.{number}
 use Rattle.mc_base.specs.Shown.{HasReason, IsFirst}
 use Rattle.smi_lex.specs.Reading.{IsCause}
@@ -11,7 +11,7 @@ use Rattle.smi_lex.specs.Tokens.{unread}
 use Rattle.smi_lex.proofs.Causes.{only_cause}
 use Rattle.smi_graph.specs.declared.first_faults.Fault.{Fault}
 use Rattle.smi_graph.specs.declared.role.Role.{Role}
-use Rattle.smi_graph.specs.Rules.{roles_in, atoms_in, bonds_in, byte_place, is_built, StopsAt, WrongAt, TokenFails, BeyondAt, BreaksAt}
+use Rattle.smi_graph.specs.Rules.{roles_in, atoms_in, bonds_in, text_bonds_in, byte_place, is_built, StopsAt, WrongAt, TokenFails, AromaticAt, BeyondAt, BreaksAt}
 use Rattle.smi_graph.specs.Faults.{refusal_at, IsFirstFault}
 use Rattle.smi_graph.specs.Skeletons.{IsNoBarrier}
 use Rattle.smi_graph.proofs.TokenFaults.{not_both}
@@ -32,6 +32,7 @@ early text ParenOpen place less w = absurd (omega arith)
 early text RingOpen place less w = absurd (omega arith)
 early text RingClash place less w = absurd (omega arith)
 early text RingPair place less w = absurd (omega arith)
+early text AromaticBond place less w = absurd (omega arith)
 early text LimitAtoms place less w = absurd (omega arith)
 early text LimitBonds place less w = absurd (omega arith)
 early text LimitRings place less w = absurd (omega arith)
@@ -50,6 +51,7 @@ of_tokens text ParenOpen place less w = inr w
 of_tokens text RingOpen place less w = inr w
 of_tokens text RingClash place less w = inr w
 of_tokens text RingPair place less w = inr w
+of_tokens text AromaticBond place less w = absurd (omega arith)
 of_tokens text LimitAtoms place less w = absurd (omega arith)
 of_tokens text LimitBonds place less w = absurd (omega arith)
 of_tokens text LimitRings place less w = absurd (omega arith)
@@ -58,10 +60,15 @@ of_tokens text LimitClass place less w = absurd (omega arith)
 of_tokens text LimitCharge place less w = absurd (omega arith)
 of_tokens text _ place less w = absurd w
 
+abbrev IsAromatic : List ℕ → Kind → ℕ → Type 0
+IsAromatic text kind place = AromaticAt (atoms_in text) (text_bonds_in text) kind place
+
 abbrev IsBeyond : List ℕ → Kind → ℕ → Type 0
 IsBeyond text kind place = BeyondAt (atoms_in text) (bonds_in text) kind place
 
-of_any : (text : List ℕ) (kind : Kind) (place : ℕ) → BreaksAt text kind place → ((IsUnbuilt text ⊎ StopsAt text kind place) ⊎ TokenFails text kind place) ⊎ IsBeyond text kind place
+-- by the rules up to that of the tokens, by that of `:` bonds or by a limit
+of_any : (text : List ℕ) (kind : Kind) (place : ℕ) → BreaksAt text kind place
+    → ((IsUnbuilt text ⊎ StopsAt text kind place) ⊎ TokenFails text kind place) ⊎ (IsAromatic text kind place ⊎ IsBeyond text kind place)
 of_any text NotBuilt place w = inl (inl (inl (w.1, w.2)))
 of_any text BadToken place w = inl (inl (inr w))
 of_any text Wildcard place w = inl (inl (inr w))
@@ -71,12 +78,13 @@ of_any text ParenOpen place w = inl (inr w)
 of_any text RingOpen place w = inl (inr w)
 of_any text RingClash place w = inl (inr w)
 of_any text RingPair place w = inl (inr w)
-of_any text LimitAtoms place w = inr w
-of_any text LimitBonds place w = inr w
-of_any text LimitRings place w = inr w
-of_any text LimitIsotope place w = inr w
-of_any text LimitClass place w = inr w
-of_any text LimitCharge place w = inr w
+of_any text AromaticBond place w = inr (inl w)
+of_any text LimitAtoms place w = inr (inr w)
+of_any text LimitBonds place w = inr (inr w)
+of_any text LimitRings place w = inr (inr w)
+of_any text LimitIsotope place w = inr (inr w)
+of_any text LimitClass place w = inr (inr w)
+of_any text LimitCharge place w = inr (inr w)
 of_any text _ place w = absurd w
 
 stop_breaks : (text : List ℕ) (kind : Kind) (place : ℕ) → StopsAt text kind place → BreaksAt text kind place
@@ -120,6 +128,23 @@ wrong_reason ks RingOpen i w = (refl, refl)
 wrong_reason ks RingClash i w = (refl, refl)
 wrong_reason ks RingPair i w = (refl, refl)
 wrong_reason ks _ i w = absurd w
+
+aromatic_breaks : (text : List ℕ) (kind : Kind) (place : ℕ) → IsAromatic text kind place → BreaksAt text kind place
+aromatic_breaks text AromaticBond place w = w
+aromatic_breaks text _ place w = absurd w
+
+aromatic_number : (text : List ℕ) (kind : Kind) (place : ℕ) → IsAromatic text kind place → number kind ≡ 25
+aromatic_number text AromaticBond place w = refl
+aromatic_number text _ place w = absurd w
+
+beyond_number : (text : List ℕ) (kind : Kind) (place : ℕ) → IsBeyond text kind place → 25 < number kind
+beyond_number text LimitAtoms place w = omega arith
+beyond_number text LimitBonds place w = omega arith
+beyond_number text LimitRings place w = omega arith
+beyond_number text LimitIsotope place w = omega arith
+beyond_number text LimitClass place w = omega arith
+beyond_number text LimitCharge place w = omega arith
+beyond_number text _ place w = absurd w
 
 beyond_breaks : (text : List ℕ) (kind : Kind) (place : ℕ) → IsBeyond text kind place → BreaksAt text kind place
 beyond_breaks text LimitAtoms place w = w
@@ -190,33 +215,62 @@ shows_wrong text fault whole built h =
       reason = wrong_reason (roles_in text) fault.kind fault.place h.stands;
     }
 
+-- no kind stands by the rules of the tokens
+no_token_fault : (text : List ℕ) → unread text ≡ [] → is_built text ≡ true → IsFirstFault (WrongAt (roles_in text)) None
+    → (kind : Kind) (place : ℕ) → (IsUnbuilt text ⊎ StopsAt text kind place) ⊎ TokenFails text kind place → ⊥
+no_token_fault text whole built right kind place (inl e) = none_early text whole built kind place e
+no_token_fault text whole built right kind place (inr (j, wrong, at)) = right kind j wrong
+
+-- The `:` bonds
+
+pub shows_aromatic : (text : List ℕ) (fault : Fault) → unread text ≡ [] → is_built text ≡ true → IsFirstFault (WrongAt (roles_in text)) None
+    → IsFirstFault (AromaticAt (atoms_in text) (text_bonds_in text)) (Some fault) → IsFirst (BreaksAt text) IsNoBarrier (refusal_at fault.kind fault.place)
+shows_aromatic text fault whole built right h =
+    let n = aromatic_number text fault.kind fault.place h.stands in
+    record {
+      stands = aromatic_breaks text fault.kind fault.place h.stands;
+      least = λ place w. elim (of_any text fault.kind place w) [
+        | inl e ↦ absurd (no_token_fault text whole built right fault.kind place e)
+        | inr later ↦ elim later [
+          | inl a ↦ h.least place a
+          | inr b ↦ let m = beyond_number text fault.kind place b in absurd (omega arith)
+        ]
+      ];
+      first = λ kind place less w. no_token_fault text whole built right kind place (of_tokens text kind place (omega arith) w);
+      reason = h.reason;
+    }
+
 -- The limits
 
 pub shows_beyond : (text : List ℕ) (fault : Fault) → unread text ≡ [] → is_built text ≡ true → IsFirstFault (WrongAt (roles_in text)) None
+    → IsFirstFault (AromaticAt (atoms_in text) (text_bonds_in text)) None
     → IsFirstFault (BeyondAt (atoms_in text) (bonds_in text)) (Some fault) → IsFirst (BreaksAt text) IsNoBarrier (refusal_at fault.kind fault.place)
-shows_beyond text fault whole built right h = record {
+shows_beyond text fault whole built right lower h = record {
   stands = beyond_breaks text fault.kind fault.place h.stands;
   least = λ place w. elim (of_any text fault.kind place w) [
-    | inl e ↦ absurd (no_fault fault.kind place e)
-    | inr b ↦ h.least place b
+    | inl e ↦ absurd (no_token_fault text whole built right fault.kind place e)
+    | inr later ↦ elim later [
+      | inl a ↦ absurd (lower fault.kind place a)
+      | inr b ↦ h.least place b
+    ]
   ];
   first = λ kind place less w. elim (of_any text kind place w) [
-    | inl e ↦ no_fault kind place e
-    | inr b ↦ h.first kind place less b
+    | inl e ↦ no_token_fault text whole built right kind place e
+    | inr later ↦ elim later [
+      | inl a ↦ lower kind place a
+      | inr b ↦ h.first kind place less b
+    ]
   ];
   reason = h.reason;
 }
-  where
-    no_fault : (kind : Kind) (place : ℕ) → (IsUnbuilt text ⊎ StopsAt text kind place) ⊎ TokenFails text kind place → ⊥
-    no_fault kind place (inl e) = none_early text whole built kind place e
-    no_fault kind place (inr (j, wrong, at)) = right kind j wrong
 
-pub shows_nothing : (text : List ℕ) → unread text ≡ [] → is_built text ≡ true → IsFirstFault (WrongAt (roles_in text)) None → IsFirstFault (BeyondAt (atoms_in text) (bonds_in text)) None
+pub shows_nothing : (text : List ℕ) → unread text ≡ [] → is_built text ≡ true → IsFirstFault (WrongAt (roles_in text)) None
+    → IsFirstFault (AromaticAt (atoms_in text) (text_bonds_in text)) None → IsFirstFault (BeyondAt (atoms_in text) (bonds_in text)) None
     → (kind : Kind) (place : ℕ) → BreaksAt text kind place → ⊥
-shows_nothing text whole built right within kind place w = elim (of_any text kind place w) [
-  | inl e ↦ elim e [
-    | inl early ↦ none_early text whole built kind place early
-    | inr f ↦ let (j, wrong, at) = f in right kind j wrong
+shows_nothing text whole built right lower within kind place w = elim (of_any text kind place w) [
+  | inl e ↦ no_token_fault text whole built right kind place e
+  | inr later ↦ elim later [
+    | inl a ↦ lower kind place a
+    | inr b ↦ within kind place b
   ]
-  | inr b ↦ within kind place b
 ]

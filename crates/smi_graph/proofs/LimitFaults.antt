@@ -3,17 +3,19 @@ use Rattle.std.proofs.Common.{arith, ◌≡◌, ℕ, zero, suc, ◌+◌, ◌≤�
 use Rattle.std.specs.List.{list_all}
 use Rattle.std.specs.Prelude.{slice_get, not, ◌&&◌, ◌||◌, if◌then◌else◌}
 use Rattle.std.proofs.lemmas.Bool.{cases_lt}
+use Rattle.std.proofs.lemmas.Option.{slice_get_past}
 use Rattle.mc_base.specs.declared.kind.Kind.{Kind}
 use Rattle.mc_base.specs.declared.kind.Kind.TheVariants.{LimitAtoms, LimitBonds, LimitRings, LimitIsotope, LimitClass, LimitCharge}
 use Rattle.mc_base.specs.Kinds.{number}
 use Rattle.mc_mol.specs.declared.parts.Bond as bond
 use Rattle.mc_mol.specs.Parts.{count_below, independent_rings}
+use Rattle.mc_mol.specs.declared.limits.TheConstants.{ATOM_LIMIT, BOND_LIMIT, RING_LIMIT}
 use Rattle.smi_graph.specs.declared.skel_atom.SkelAtom.{SkelAtom}
 use Rattle.smi_graph.specs.Firsts.{IsFirstOf}
 use Rattle.smi_graph.specs.Reading.{is_within_limits}
-use Rattle.smi_graph.specs.Rules.{limit, ring_limit, fails, has_high_isotope, has_high_class, has_high_charge, IsAbove, AtomFails, BeyondAt}
+use Rattle.smi_graph.specs.Rules.{fails, has_high_isotope, has_high_class, has_high_charge, IsAbove, AtomFails, BeyondAt}
 use Rattle.smi_graph.specs.Faults.{IsFirstFault}
-use Rattle.smi_graph.proofs.TokenFaults.{not_both, past}
+use Rattle.smi_graph.proofs.TokenFaults.{not_both}
 
 -- no more numbers pass than there are
 pub count_low : (p : ℕ → Bool) (n : ℕ) → count_below p n ≤ n
@@ -28,7 +30,7 @@ above_limit : (count most place : ℕ) → count ≤ most → IsAbove count most
 above_limit count most place few w = let more = w.1 in omega arith
 
 fails_past : (all : List SkelAtom) (p : SkelAtom → Bool) (k : ℕ) → length all ≤ k → fails p (slice_get all k) ≡ false
-fails_past all p k le = ap (fails p) (past all k le)
+fails_past all p k le = ap (fails p) (slice_get_past all k le)
 
 no_atom : (all : List SkelAtom) (p : SkelAtom → Bool) (place : ℕ) → IsFirstOf (λ k. fails p (slice_get all k)) (length all) None → AtomFails all p place → ⊥
 no_atom all p place none (k, at, holds) = elim (cases_lt k (length all)) [
@@ -51,7 +53,7 @@ before_atoms all bs LimitClass place less w = omega arith
 before_atoms all bs LimitCharge place less w = omega arith
 before_atoms all bs _ place less w = w
 
-pub shows_atoms : (all : List SkelAtom) (bs : List bond.Bond) (n : ℕ) → (n ≡ length all) × (limit < n) → IsFirstFault (BeyondAt all bs) (Some (record { kind = LimitAtoms; place = n }))
+pub shows_atoms : (all : List SkelAtom) (bs : List bond.Bond) (n : ℕ) → (n ≡ length all) × (ATOM_LIMIT < n) → IsFirstFault (BeyondAt all bs) (Some (record { kind = LimitAtoms; place = n }))
 shows_atoms all bs n h = record {
   stands = (h.0, let e = h.0 in let m = h.1 in omega arith);
   least = λ place w. let e = w.0 in let e' = h.0 in omega arith;
@@ -59,7 +61,7 @@ shows_atoms all bs n h = record {
   reason = (refl, refl);
 }
 
-before_bonds : (all : List SkelAtom) (bs : List bond.Bond) → length all ≤ limit → (kind : Kind) (place : ℕ) → number kind < 29 → BeyondAt all bs kind place → ⊥
+before_bonds : (all : List SkelAtom) (bs : List bond.Bond) → length all ≤ ATOM_LIMIT → (kind : Kind) (place : ℕ) → number kind < 29 → BeyondAt all bs kind place → ⊥
 before_bonds all bs a LimitAtoms place less w = above_limit _ _ place a w
 before_bonds all bs a LimitBonds place less w = omega arith
 before_bonds all bs a LimitRings place less w = omega arith
@@ -68,7 +70,7 @@ before_bonds all bs a LimitClass place less w = omega arith
 before_bonds all bs a LimitCharge place less w = omega arith
 before_bonds all bs a _ place less w = w
 
-pub shows_bonds : (all : List SkelAtom) (bs : List bond.Bond) (n : ℕ) → length all ≤ limit → (n ≡ length bs) × (limit < n) → IsFirstFault (BeyondAt all bs) (Some (record { kind = LimitBonds; place = n }))
+pub shows_bonds : (all : List SkelAtom) (bs : List bond.Bond) (n : ℕ) → length all ≤ ATOM_LIMIT → (n ≡ length bs) × (BOND_LIMIT < n) → IsFirstFault (BeyondAt all bs) (Some (record { kind = LimitBonds; place = n }))
 shows_bonds all bs n a h = record {
   stands = (h.0, let e = h.0 in let m = h.1 in omega arith);
   least = λ place w. let e = w.0 in let e' = h.0 in omega arith;
@@ -76,7 +78,7 @@ shows_bonds all bs n a h = record {
   reason = (refl, refl);
 }
 
-before_rings : (all : List SkelAtom) (bs : List bond.Bond) → length all ≤ limit → length bs ≤ limit → (kind : Kind) (place : ℕ) → number kind < 30 → BeyondAt all bs kind place → ⊥
+before_rings : (all : List SkelAtom) (bs : List bond.Bond) → length all ≤ ATOM_LIMIT → length bs ≤ BOND_LIMIT → (kind : Kind) (place : ℕ) → number kind < 30 → BeyondAt all bs kind place → ⊥
 before_rings all bs a b LimitAtoms place less w = above_limit _ _ place a w
 before_rings all bs a b LimitBonds place less w = above_limit _ _ place b w
 before_rings all bs a b LimitRings place less w = omega arith
@@ -85,7 +87,7 @@ before_rings all bs a b LimitClass place less w = omega arith
 before_rings all bs a b LimitCharge place less w = omega arith
 before_rings all bs a b _ place less w = w
 
-pub shows_rings : (all : List SkelAtom) (bs : List bond.Bond) (n : ℕ) → length all ≤ limit → length bs ≤ limit → (n ≡ independent_rings bs (length all)) × (ring_limit < n) → IsFirstFault (BeyondAt all bs) (Some (record { kind = LimitRings; place = n }))
+pub shows_rings : (all : List SkelAtom) (bs : List bond.Bond) (n : ℕ) → length all ≤ ATOM_LIMIT → length bs ≤ BOND_LIMIT → (n ≡ independent_rings bs (length all)) × (RING_LIMIT < n) → IsFirstFault (BeyondAt all bs) (Some (record { kind = LimitRings; place = n }))
 shows_rings all bs n a b h = record {
   stands = (h.0, let e = h.0 in let m = h.1 in omega arith);
   least = λ place w. let e = w.0 in let e' = h.0 in omega arith;
@@ -93,7 +95,7 @@ shows_rings all bs n a b h = record {
   reason = (refl, refl);
 }
 
-before_isotope : (all : List SkelAtom) (bs : List bond.Bond) → length all ≤ limit → length bs ≤ limit → independent_rings bs (length all) ≤ ring_limit → (kind : Kind) (place : ℕ) → number kind < 31 → BeyondAt all bs kind place → ⊥
+before_isotope : (all : List SkelAtom) (bs : List bond.Bond) → length all ≤ ATOM_LIMIT → length bs ≤ BOND_LIMIT → independent_rings bs (length all) ≤ RING_LIMIT → (kind : Kind) (place : ℕ) → number kind < 31 → BeyondAt all bs kind place → ⊥
 before_isotope all bs a b c LimitAtoms place less w = above_limit _ _ place a w
 before_isotope all bs a b c LimitBonds place less w = above_limit _ _ place b w
 before_isotope all bs a b c LimitRings place less w = above_limit _ _ place c w
@@ -102,7 +104,7 @@ before_isotope all bs a b c LimitClass place less w = omega arith
 before_isotope all bs a b c LimitCharge place less w = omega arith
 before_isotope all bs a b c _ place less w = w
 
-pub shows_isotope : (all : List SkelAtom) (bs : List bond.Bond) (n : ℕ) → length all ≤ limit → length bs ≤ limit → independent_rings bs (length all) ≤ ring_limit → IsFirstOf (λ k. fails has_high_isotope (slice_get all k)) (length all) (Some n) → IsFirstFault (BeyondAt all bs) (Some (record { kind = LimitIsotope; place = n + 1 }))
+pub shows_isotope : (all : List SkelAtom) (bs : List bond.Bond) (n : ℕ) → length all ≤ ATOM_LIMIT → length bs ≤ BOND_LIMIT → independent_rings bs (length all) ≤ RING_LIMIT → IsFirstOf (λ k. fails has_high_isotope (slice_get all k)) (length all) (Some n) → IsFirstFault (BeyondAt all bs) (Some (record { kind = LimitIsotope; place = n + 1 }))
 shows_isotope all bs n a b c h = record {
   stands = (n, refl, h.1);
   least = λ place w. first_atom all has_high_isotope n place h w;
@@ -110,7 +112,7 @@ shows_isotope all bs n a b c h = record {
   reason = (refl, refl);
 }
 
-before_class : (all : List SkelAtom) (bs : List bond.Bond) → length all ≤ limit → length bs ≤ limit → independent_rings bs (length all) ≤ ring_limit → IsFirstOf (λ k. fails has_high_isotope (slice_get all k)) (length all) None → (kind : Kind) (place : ℕ) → number kind < 32 → BeyondAt all bs kind place → ⊥
+before_class : (all : List SkelAtom) (bs : List bond.Bond) → length all ≤ ATOM_LIMIT → length bs ≤ BOND_LIMIT → independent_rings bs (length all) ≤ RING_LIMIT → IsFirstOf (λ k. fails has_high_isotope (slice_get all k)) (length all) None → (kind : Kind) (place : ℕ) → number kind < 32 → BeyondAt all bs kind place → ⊥
 before_class all bs a b c d LimitAtoms place less w = above_limit _ _ place a w
 before_class all bs a b c d LimitBonds place less w = above_limit _ _ place b w
 before_class all bs a b c d LimitRings place less w = above_limit _ _ place c w
@@ -119,7 +121,7 @@ before_class all bs a b c d LimitClass place less w = omega arith
 before_class all bs a b c d LimitCharge place less w = omega arith
 before_class all bs a b c d _ place less w = w
 
-pub shows_class : (all : List SkelAtom) (bs : List bond.Bond) (n : ℕ) → length all ≤ limit → length bs ≤ limit → independent_rings bs (length all) ≤ ring_limit → IsFirstOf (λ k. fails has_high_isotope (slice_get all k)) (length all) None → IsFirstOf (λ k. fails has_high_class (slice_get all k)) (length all) (Some n) → IsFirstFault (BeyondAt all bs) (Some (record { kind = LimitClass; place = n + 1 }))
+pub shows_class : (all : List SkelAtom) (bs : List bond.Bond) (n : ℕ) → length all ≤ ATOM_LIMIT → length bs ≤ BOND_LIMIT → independent_rings bs (length all) ≤ RING_LIMIT → IsFirstOf (λ k. fails has_high_isotope (slice_get all k)) (length all) None → IsFirstOf (λ k. fails has_high_class (slice_get all k)) (length all) (Some n) → IsFirstFault (BeyondAt all bs) (Some (record { kind = LimitClass; place = n + 1 }))
 shows_class all bs n a b c d h = record {
   stands = (n, refl, h.1);
   least = λ place w. first_atom all has_high_class n place h w;
@@ -127,7 +129,7 @@ shows_class all bs n a b c d h = record {
   reason = (refl, refl);
 }
 
-before_charge : (all : List SkelAtom) (bs : List bond.Bond) → length all ≤ limit → length bs ≤ limit → independent_rings bs (length all) ≤ ring_limit → IsFirstOf (λ k. fails has_high_isotope (slice_get all k)) (length all) None → IsFirstOf (λ k. fails has_high_class (slice_get all k)) (length all) None → (kind : Kind) (place : ℕ) → number kind < 33 → BeyondAt all bs kind place → ⊥
+before_charge : (all : List SkelAtom) (bs : List bond.Bond) → length all ≤ ATOM_LIMIT → length bs ≤ BOND_LIMIT → independent_rings bs (length all) ≤ RING_LIMIT → IsFirstOf (λ k. fails has_high_isotope (slice_get all k)) (length all) None → IsFirstOf (λ k. fails has_high_class (slice_get all k)) (length all) None → (kind : Kind) (place : ℕ) → number kind < 33 → BeyondAt all bs kind place → ⊥
 before_charge all bs a b c d e LimitAtoms place less w = above_limit _ _ place a w
 before_charge all bs a b c d e LimitBonds place less w = above_limit _ _ place b w
 before_charge all bs a b c d e LimitRings place less w = above_limit _ _ place c w
@@ -136,7 +138,7 @@ before_charge all bs a b c d e LimitClass place less w = no_atom all has_high_cl
 before_charge all bs a b c d e LimitCharge place less w = omega arith
 before_charge all bs a b c d e _ place less w = w
 
-pub shows_charge : (all : List SkelAtom) (bs : List bond.Bond) (n : ℕ) → length all ≤ limit → length bs ≤ limit → independent_rings bs (length all) ≤ ring_limit → IsFirstOf (λ k. fails has_high_isotope (slice_get all k)) (length all) None → IsFirstOf (λ k. fails has_high_class (slice_get all k)) (length all) None → IsFirstOf (λ k. fails has_high_charge (slice_get all k)) (length all) (Some n) → IsFirstFault (BeyondAt all bs) (Some (record { kind = LimitCharge; place = n + 1 }))
+pub shows_charge : (all : List SkelAtom) (bs : List bond.Bond) (n : ℕ) → length all ≤ ATOM_LIMIT → length bs ≤ BOND_LIMIT → independent_rings bs (length all) ≤ RING_LIMIT → IsFirstOf (λ k. fails has_high_isotope (slice_get all k)) (length all) None → IsFirstOf (λ k. fails has_high_class (slice_get all k)) (length all) None → IsFirstOf (λ k. fails has_high_charge (slice_get all k)) (length all) (Some n) → IsFirstFault (BeyondAt all bs) (Some (record { kind = LimitCharge; place = n + 1 }))
 shows_charge all bs n a b c d e h = record {
   stands = (n, refl, h.1);
   least = λ place w. first_atom all has_high_charge n place h w;
@@ -144,7 +146,7 @@ shows_charge all bs n a b c d e h = record {
   reason = (refl, refl);
 }
 
-pub shows_no_limit : (all : List SkelAtom) (bs : List bond.Bond) → length all ≤ limit → length bs ≤ limit → independent_rings bs (length all) ≤ ring_limit → IsFirstOf (λ k. fails has_high_isotope (slice_get all k)) (length all) None → IsFirstOf (λ k. fails has_high_class (slice_get all k)) (length all) None → IsFirstOf (λ k. fails has_high_charge (slice_get all k)) (length all) None → IsFirstFault (BeyondAt all bs) None
+pub shows_no_limit : (all : List SkelAtom) (bs : List bond.Bond) → length all ≤ ATOM_LIMIT → length bs ≤ BOND_LIMIT → independent_rings bs (length all) ≤ RING_LIMIT → IsFirstOf (λ k. fails has_high_isotope (slice_get all k)) (length all) None → IsFirstOf (λ k. fails has_high_class (slice_get all k)) (length all) None → IsFirstOf (λ k. fails has_high_charge (slice_get all k)) (length all) None → IsFirstFault (BeyondAt all bs) None
 shows_no_limit all bs a b c d e f LimitAtoms place w = above_limit _ _ place a w
 shows_no_limit all bs a b c d e f LimitBonds place w = above_limit _ _ place b w
 shows_no_limit all bs a b c d e f LimitRings place w = above_limit _ _ place c w

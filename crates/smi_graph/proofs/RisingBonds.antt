@@ -1,7 +1,7 @@
 -- The bonds of the latest atom are the last ones of a text so far.
 use Rattle.std.proofs.Common.{arith, ◌≡◌, ◌≢◌, ◌∙◌, ℕ, zero, suc, ◌+◌, ◌-◌, ◌≤◌, ◌<◌, List, [], ◌∷◌, ◌++◌, length, take, drop, get_or, Bool, false, Option, Some, None, refl, ap, sym, subst, inl, inr}
 use Rattle.std.specs.Prelude.{◌==◌, ◌||◌}
-use Rattle.std.proofs.lemmas.Bool.{cases_lt}
+use Rattle.std.proofs.lemmas.Bool.{cases_lt, ne_eqb}
 use Rattle.std.proofs.lemmas.List.{append-nil, take_rest}
 use Rattle.std.proofs.lemmas.List.Elements.{All-push}
 use Rattle.mc_mol.specs.Molecule.{joins, are_joined}
@@ -16,7 +16,6 @@ use Rattle.smi_graph.specs.RingRules.{pairs_again}
 use Rattle.std.specs.List.{list_any}
 use Rattle.std.specs.Prelude.{map, option_to_list}
 use Rattle.smi_graph.specs.Reading.{RisesTo, IsTo}
-use Rattle.smi_graph.proofs.RingEnds.{test_other}
 use Rattle.smi_graph.proofs.SoundBonds.{AllPairs-push, All-map, neither, predecessor_below, open_low}
 
 -- One more bond to an atom that is none of the earlier ones
@@ -83,8 +82,8 @@ at_most v bonds r i j d le within = elim (cases_lt i j) [
 -- a bond that goes back, to an atom before this one, doesn't touch this one
 misses : (b : TextBond) (u v : ℕ) → b.first.0 ≤ b.second.0 → b.second.0 < v → joins (bond_of b) u v ≡ false
 misses b u v back less =
-    let s : (b.second.0 == v) ≡ false = test_other b.second.0 v (λ e. omega arith) in
-    let f : (b.first.0 == v) ≡ false = test_other b.first.0 v (λ e. omega arith) in
+    let s : (b.second.0 == v) ≡ false = ne_eqb b.second.0 v (λ e. omega arith) in
+    let f : (b.first.0 == v) ≡ false = ne_eqb b.first.0 v (λ e. omega arith) in
     neither (b.first.0 == u) (b.second.0 == v) (b.first.0 == v) (b.second.0 == u) s f
 
 below_from : (a b v : ℕ) → a ≤ b → b ≤ v → b ≢ v → a < v
@@ -107,7 +106,7 @@ pub pairs_latest : (bonds : List TextBond) (b : TextBond) (atom k : ℕ) → b.f
 pairs_latest bonds b atom k ne to rises within stop =
     ap (λ (x : List TextBond). are_joined (map bond_of x) b.first.0 b.second.0) (take_rest bonds k)
     ∙ (latest_enough bonds k b.first.0 b.second.0 (subst (λ (n : ℕ). RisesTo n bonds) (sym to) rises) within stop
-    ∙ sym (ap (λ (t : Bool). t || are_joined (map bond_of bonds) b.first.0 b.second.0) (test_other b.first.0 b.second.0 ne)))
+    ∙ sym (ap (λ (t : Bool). t || are_joined (map bond_of bonds) b.first.0 b.second.0) (ne_eqb b.first.0 b.second.0 ne)))
 
 -- a closing number completes a bond to the latest atom
 pub to_latest : (n : ℕ) (before : List Role) → IsTo (atom_count before - 1) (completed before (Ring n))

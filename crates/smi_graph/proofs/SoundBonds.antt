@@ -5,13 +5,14 @@ use Rattle.smi_graph.specs.Links.{bond_of}
 use Rattle.std.proofs.Common.{arith, ◌≡◌, ◌≢◌, ◌∙◌, ℕ, zero, suc, ◌+◌, ◌-◌, ◌≤◌, ◌<◌, List, [], ◌∷◌, ◌++◌, length, get_or, Bool, true, false, Option, Some, None, refl, ap, sym, subst, inl, inr}
 use Rattle.std.specs.List.{All, AllPairs, list_any}
 use Rattle.std.specs.Prelude.{◌==◌, ◌||◌, ◌&&◌, if◌then◌else◌}
-use Rattle.std.proofs.lemmas.Bool.{cases_lt, false≢true}
-use Rattle.std.proofs.lemmas.Option.{slice_get-get_or}
+use Rattle.std.proofs.lemmas.Bool.{cases_lt, false≢true, ne_eqb, or_parts}
+use Rattle.std.proofs.lemmas.Option.{slice_get-get_or, same_Some}
 use Rattle.std.proofs.lemmas.List.{append-nil, length-append, length_push, get_or_push, get_or_append_left}
 use Rattle.std.proofs.lemmas.List.Elements.{All-push}
 use Rattle.mc_mol.specs.declared.parts.Bond as bond
 use Rattle.mc_mol.specs.Molecule.{joins, are_joined}
 use Rattle.mc_mol.specs.WellFormed.{IsBond}
+use Rattle.mc_mol.proofs.Halves.{same_test}
 use Rattle.smi_lex.specs.declared.token.BondMark.{BondMark}
 use Rattle.smi_lex.specs.declared.token.BondMark.TheVariants.{Single, Double, Triple, Quadruple, Aromatic, Slash, Backslash}
 use Rattle.smi_graph.specs.declared.ring_table.RingEnd.{RingEnd}
@@ -24,10 +25,6 @@ use Rattle.smi_graph.specs.RingRules.{is_pair_again, pairs_again, pair_again_at}
 use Rattle.smi_graph.specs.declared.text_bond.TextBond.{TextBond}
 use Rattle.smi_graph.proofs.Prefixes.{tokens_before_more}
 use Rattle.smi_graph.specs.Skeletons.{AreBonds}
-use Rattle.smi_graph.proofs.RingEnds.{test_other, test_same}
-
-some_is : (a b : ℕ) → Some a ≡ Some b → a ≡ b
-some_is a b h = cc
 
 latest_below : (before later : List Role) (a : ℕ) → latest_open later before ≡ Some a → a < atom_count before
 latest_below [] later a h = cc
@@ -35,7 +32,7 @@ latest_below (Atom lower ∷ before) later a h = by_test (never_falls later) (la
   where
     by_test : (t : Bool) → (latest_open (later ++ Atom lower ∷ []) before ≡ Some a → a < atom_count before)
         → (if t then Some (atom_count before) else latest_open (later ++ Atom lower ∷ []) before) ≡ Some a → a < atom_count before + 1
-    by_test true below h = let e : atom_count before ≡ a = some_is (atom_count before) a h in omega arith
+    by_test true below h = let e : atom_count before ≡ a = same_Some (atom_count before) a h in omega arith
     by_test false below h = let l = below h in omega arith
 latest_below (Bond mark ∷ before) later a h = latest_below before (later ++ Bond mark ∷ []) a h
 latest_below (Ring number ∷ before) later a h = latest_below before (later ++ Ring number ∷ []) a h
@@ -52,16 +49,13 @@ predecessor_below (Ring number ∷ before) a h = latest_below (Ring number ∷ b
 predecessor_below (Enter ∷ before) a h = latest_below (Enter ∷ before) [] a h
 predecessor_below (Leave ∷ before) a h = latest_below (Leave ∷ before) [] a h
 
-same_end : (a b : RingEnd) → Some a ≡ Some b → a ≡ b
-same_end a b h = cc
-
 -- the atom of an open number is no later than the latest atom
 end_low : (n : ℕ) (before : List Role) (end : RingEnd) → latest_end n before ≡ Some end → end.atom ≤ atom_count before - 1
 end_low n [] end h = cc
 end_low n (Ring m ∷ before) end h = by_test (m == n) (end_low n before end) h
   where
     by_test : (t : Bool) → (latest_end n before ≡ Some end → end.atom ≤ atom_count before - 1) → (if t then Some (ring_end before) else latest_end n before) ≡ Some end → end.atom ≤ atom_count before - 1
-    by_test true low h = let e : ring_end before ≡ end = same_end (ring_end before) end h in let a : atom_count before - 1 ≡ end.atom = ap (λ (x : RingEnd). x.atom) e in omega arith
+    by_test true low h = let e : ring_end before ≡ end = same_Some (ring_end before) end h in let a : atom_count before - 1 ≡ end.atom = ap (λ (x : RingEnd). x.atom) e in omega arith
     by_test false low h = low h
 end_low n (Atom lower ∷ before) end h = let l = end_low n before end h in omega arith
 end_low n (Bond mark ∷ before) end h = end_low n before end h
@@ -98,10 +92,6 @@ AllPairs-push R xs x pairs last = λ i j d less within.
           (subst (λ y. R (get_or xs i d) y) (sym (get_or_push xs x d j (omega arith))) (last i d (omega arith)))
     ]
 
-or_false : (a b : Bool) → a || b ≡ false → (a ≡ false) × (b ≡ false)
-or_false true b h = absurd (false≢true (sym h))
-or_false false b h = (refl, h)
-
 All-cons : {X : Type 0} (P : X → Type 0) (x : X) (xs : List X) → P x → All P xs → All P (x ∷ xs)
 All-cons P x xs here later zero d less = here
 All-cons P x xs here later (suc k) d less = later k d (omega arith)
@@ -109,7 +99,7 @@ All-cons P x xs here later (suc k) d less = later k d (omega arith)
 none_passes : {X : Type 0} (p : X → Bool) (xs : List X) → list_any p xs ≡ false → All (λ x. p x ≡ false) xs
 none_passes p [] h = λ k d less. absurd (omega arith)
 none_passes p (x ∷ xs) h =
-    let both = or_false (p x) (list_any p xs) h in
+    let both = or_parts (p x) (list_any p xs) h in
     All-cons (λ y. p y ≡ false) x xs both.0 (none_passes p xs both.1)
 
 -- Bonds
@@ -126,8 +116,8 @@ neither a false true d h k = absurd (false≢true (sym k))
 joins_new : (n p : ℕ) (b : bond.Bond) → IsBond n b → joins b p n ≡ false
 joins_new n p b h =
     let l = h.first in let m = h.second in
-    let s : (b.second.0 == n) ≡ false = test_other b.second.0 n (λ e. omega arith) in
-    let f : (b.first.0 == n) ≡ false = test_other b.first.0 n (λ e. omega arith) in
+    let s : (b.second.0 == n) ≡ false = ne_eqb b.second.0 n (λ e. omega arith) in
+    let f : (b.first.0 == n) ≡ false = ne_eqb b.first.0 n (λ e. omega arith) in
     neither (b.first.0 == p) (b.second.0 == n) (b.first.0 == n) (b.second.0 == p) s f
 
 abbrev pub NeverPairs : List Role → Type 0
@@ -159,10 +149,10 @@ ring_sound : (o : Option RingEnd) (here : RingEnd) (n : ℕ) (bonds : List bond.
     → AreBonds n (bonds ++ map bond_of (option_to_list (ring_bond o here)))
 ring_sound None here n bonds last low fresh sound = no_bond_more n bonds sound
 ring_sound (Some other) here n bonds last low fresh sound =
-    let f = or_false (other.atom == here.atom) (are_joined bonds other.atom here.atom) fresh in
+    let f = or_parts (other.atom == here.atom) (are_joined bonds other.atom here.atom) fresh in
     let o = order_bounds (or_else other.mark here.mark) in
     let le = low other refl in
-    let ne : other.atom ≢ here.atom = λ e. false≢true (sym f.0 ∙ (ap (λ (x : ℕ). x == here.atom) e ∙ test_same here.atom)) in
+    let ne : other.atom ≢ here.atom = λ e. false≢true (sym f.0 ∙ (ap (λ (x : ℕ). x == here.atom) e ∙ same_test here.atom)) in
     let less : other.atom < here.atom = lesser other.atom here.atom (n - 1) last le ne in
     push_bond n bonds (bond_between other.atom here.atom (order_of (or_else other.mark here.mark))) sound
     (record { first = omega arith; second = omega arith; different = ne; order_low = o.0; order_high = o.1 })

@@ -2,8 +2,9 @@
 use Rattle.std.proofs.Common.{arith, ◌≡◌, ◌∙◌, ℕ, ◌+◌, ◌≤◌, ◌<◌, List, [], length, reverse, Bool, true, false, Some, None, refl, ap, sym, subst, inl, inr}
 use Rattle.std.specs.List.{list_all}
 use Rattle.std.specs.Prelude.{map, slice_get, take}
-use Rattle.std.proofs.lemmas.Bool.{cases_lt}
+use Rattle.std.proofs.lemmas.Bool.{cases_lt, false_from_ne_true}
 use Rattle.std.proofs.lemmas.List.{length-map, length-reverse, take_all}
+use Rattle.mc_mol.specs.declared.limits.TheConstants.{BOND_LIMIT}
 use Rattle.mc_base.specs.declared.kind.Kind.{Kind}
 use Rattle.mc_base.specs.declared.kind.Kind.TheVariants.{RingPair, LimitAtoms, LimitBonds, LimitIsotope, LimitClass}
 use Rattle.mc_base.specs.Shown.{IsFirst}
@@ -19,14 +20,15 @@ use Rattle.smi_graph.specs.RingRules.{pair_again_at}
 use Rattle.smi_graph.specs.Order.{tokens_before}
 use Rattle.smi_graph.specs.Bonds.{atom_count, text_bonds}
 use Rattle.smi_graph.specs.Links.{bond_of}
+use Rattle.smi_graph.specs.Candidates.{AreCandidates}
 use Rattle.smi_graph.specs.Reading.{held_atom, HasRead}
-use Rattle.smi_graph.specs.Rules.{roles_in, atoms_in, bonds_in, text_bonds_in, is_built, is_built_kind, limit, fails, has_high_isotope, has_high_class, WrongAt, BeyondAt, BreaksAt}
+use Rattle.smi_graph.specs.Rules.{roles_in, atoms_in, bonds_in, text_bonds_in, is_built, is_built_kind, fails, has_high_isotope, has_high_class, WrongAt, AromaticAt, BeyondAt, BreaksAt}
 use Rattle.smi_graph.specs.Faults.{refusal_at, IsFirstFault}
 use Rattle.smi_graph.specs.Skeletons.{AreBonds, IsNoBarrier, IsSkeleton}
 use Rattle.smi_graph.proofs.Prefixes.{all_before}
 use Rattle.smi_graph.proofs.SoundBonds.{NeverPairs, bonds_sound, few_bonds, never_pairs}
-use Rattle.smi_graph.proofs.HeldAtoms.{beyond_real, beyond_held, all_held, count_atoms, few_atoms}
-use Rattle.smi_graph.proofs.Lifting.{shows_beyond, shows_nothing}
+use Rattle.smi_graph.proofs.HeldAtoms.{aromatic_real, aromatic_held, beyond_real, beyond_held, all_held, count_atoms, few_atoms}
+use Rattle.smi_graph.proofs.Lifting.{shows_aromatic, shows_beyond, shows_nothing}
 
 -- what the reader has of a text: its bonds, and its atoms as they are held
 pub record Has (text : List ℕ) (bs : List TextBond) (held : List SkelAtom) : Type 0 where
@@ -48,17 +50,13 @@ has_all text r has all whole built =
       atoms = has.atoms ∙ ap (λ (x : List Token). map held_atom (atoms_of x)) taken;
     }
 
-not_true : (b : Bool) → (b ≡ true → ⊥) → b ≡ false
-not_true true h = absurd (h refl)
-not_true false h = refl
-
 size : (text : List ℕ) (held : List SkelAtom) → held ≡ map held_atom (atoms_in text) → length held ≡ length (atoms_in text)
 size text held is = ap (λ (x : List SkelAtom). length x) is ∙ length-map (atoms_in text) held_atom
 
 pub sound : (text : List ℕ) (bs : List TextBond) (held : List SkelAtom) → Has text bs held → IsFirstFault (WrongAt (roles_in text)) None → AreBonds (length held) (map bond_of bs)
 sound text bs held h right =
     let ks : List Role = roles_in text in
-    let never : NeverPairs (reverse ks) = subst NeverPairs (all_before ks) (never_pairs ks (length ks) (omega arith) (λ j below. not_true (pair_again_at ks j) (λ holds. right RingPair j holds))) in
+    let never : NeverPairs (reverse ks) = subst NeverPairs (all_before ks) (never_pairs ks (length ks) (omega arith) (λ j below. false_from_ne_true (pair_again_at ks j) (λ holds. right RingPair j holds))) in
     let count : atom_count (reverse ks) ≡ length held = count_atoms (tokens text) ∙ sym (size text held h.atoms) in
     subst (λ (n : ℕ). AreBonds n (map bond_of bs)) count (subst (λ (x : List TextBond). AreBonds (atom_count (reverse ks)) (map bond_of x)) (sym h.bonds) (bonds_sound (reverse ks) never))
 
@@ -80,35 +78,58 @@ as_held : (text : List ℕ) (bs : List TextBond) (held : List SkelAtom) → Has 
 as_held text bs held h kind place w =
     subst (λ (x : List SkelAtom). BeyondAt x (map bond_of bs) kind place) (sym h.atoms) (subst (λ (x : List TextBond). BeyondAt (map held_atom (atoms_in text)) (map bond_of x) kind place) (sym h.bonds) (beyond_held (atoms_in text) (bonds_in text) kind place w))
 
+real_aromatic : (text : List ℕ) (bs : List TextBond) (held : List SkelAtom) → Has text bs held → (kind : Kind) (place : ℕ) → AromaticAt held bs kind place → AromaticAt (atoms_in text) (text_bonds_in text) kind place
+real_aromatic text bs held h kind place w =
+    aromatic_real (atoms_in text) (text_bonds_in text) kind place (subst (λ (x : List TextBond). AromaticAt (map held_atom (atoms_in text)) x kind place) h.bonds (subst (λ (x : List SkelAtom). AromaticAt x bs kind place) h.atoms w))
+
+held_aromatic : (text : List ℕ) (bs : List TextBond) (held : List SkelAtom) → Has text bs held → (kind : Kind) (place : ℕ) → AromaticAt (atoms_in text) (text_bonds_in text) kind place → AromaticAt held bs kind place
+held_aromatic text bs held h kind place w =
+    subst (λ (x : List SkelAtom). AromaticAt x bs kind place) (sym h.atoms) (subst (λ (x : List TextBond). AromaticAt (map held_atom (atoms_in text)) x kind place) (sym h.bonds) (aromatic_held (atoms_in text) (text_bonds_in text) kind place w))
+
+pub aromatic : (text : List ℕ) (bs : List TextBond) (held : List SkelAtom) (fault : Fault) → Has text bs held
+    → IsFirstFault (WrongAt (roles_in text)) None → IsFirstFault (AromaticAt held bs) (Some fault) → IsFirst (BreaksAt text) IsNoBarrier (refusal_at fault.kind fault.place)
+aromatic text bs held fault h right found = shows_aromatic text fault h.whole h.built right (record {
+  stands = real_aromatic text bs held h fault.kind fault.place found.stands;
+  least = λ place w. found.least place (held_aromatic text bs held h fault.kind place w);
+  first = λ kind place less w. found.first kind place less (held_aromatic text bs held h kind place w);
+  reason = found.reason;
+})
+
 pub beyond : (text : List ℕ) (bs : List TextBond) (held : List SkelAtom) (fault : Fault) → Has text bs held
-    → IsFirstFault (WrongAt (roles_in text)) None → IsFirstFault (BeyondAt held (map bond_of bs)) (Some fault) → IsFirst (BreaksAt text) IsNoBarrier (refusal_at fault.kind fault.place)
-beyond text bs held fault h right found = shows_beyond text fault h.whole h.built right (record {
+    → IsFirstFault (WrongAt (roles_in text)) None → IsFirstFault (AromaticAt held bs) None → IsFirstFault (BeyondAt held (map bond_of bs)) (Some fault)
+    → IsFirst (BreaksAt text) IsNoBarrier (refusal_at fault.kind fault.place)
+beyond text bs held fault h right lower found = shows_beyond text fault h.whole h.built right (λ kind place w. lower kind place (held_aromatic text bs held h kind place w)) (record {
   stands = real text bs held h fault.kind fault.place found.stands;
   least = λ place w. found.least place (as_held text bs held h fault.kind place w);
   first = λ kind place less w. found.first kind place less (as_held text bs held h kind place w);
   reason = found.reason;
 })
 
-low : (n : ℕ) → (limit < n → ⊥) → n ≤ 999
-low n h = elim (cases_lt limit n) [
+low : (n : ℕ) → (BOND_LIMIT < n → ⊥) → n ≤ BOND_LIMIT
+low n h = elim (cases_lt BOND_LIMIT n) [
   | inl more ↦ absurd (h more)
   | inr few ↦ few
 ]
 
+-- no more atoms and bonds than the limits
+pub few_within : (text : List ℕ) (bs : List TextBond) (held : List SkelAtom) → IsFirstFault (BeyondAt held (map bond_of bs)) None → (length held ≤ 999) × (length bs ≤ 999)
+few_within text bs held within = (
+  low (length held) (λ more. within LimitAtoms (length held) (refl, more)),
+  low (length bs) (λ more. within LimitBonds (length (map bond_of bs)) (refl, subst (λ (n : ℕ). BOND_LIMIT < n) (sym (length-map bs bond_of)) more)),
+)
+
 -- a text with no fault
-pub nothing : (text : List ℕ) (bs : List TextBond) (held : List SkelAtom) → Has text bs held
-    → IsFirstFault (WrongAt (roles_in text)) None → IsFirstFault (BeyondAt held (map bond_of bs)) None → IsSkeleton text (record { atoms = held; bonds = bs })
-nothing text bs held h right within =
+pub nothing : (text : List ℕ) (bs : List TextBond) (held : List SkelAtom) (candidates : List Bool) → Has text bs held
+    → IsFirstFault (WrongAt (roles_in text)) None → IsFirstFault (AromaticAt held bs) None → IsFirstFault (BeyondAt held (map bond_of bs)) None → AreCandidates held bs candidates
+    → IsSkeleton text (record { atoms = held; bonds = bs; candidates = candidates })
+nothing text bs held candidates h right lower within are =
     let inside : IsFirstFault (BeyondAt (atoms_in text) (bonds_in text)) None = λ kind place w. within kind place (as_held text bs held h kind place w) in
-    let isotopes : (k : ℕ) → fails has_high_isotope (slice_get (atoms_in text) k) ≡ false = λ k. not_true _ (λ holds. inside LimitIsotope (k + 1) (k, refl, holds)) in
-    let classes : (k : ℕ) → fails has_high_class (slice_get (atoms_in text) k) ≡ false = λ k. not_true _ (λ holds. inside LimitClass (k + 1) (k, refl, holds)) in
+    let isotopes : (k : ℕ) → fails has_high_isotope (slice_get (atoms_in text) k) ≡ false = λ k. false_from_ne_true _ (λ holds. inside LimitIsotope (k + 1) (k, refl, holds)) in
+    let classes : (k : ℕ) → fails has_high_class (slice_get (atoms_in text) k) ≡ false = λ k. false_from_ne_true _ (λ holds. inside LimitClass (k + 1) (k, refl, holds)) in
+    let few_ones = few_within text bs held within in
     record {
-      accepted = shows_nothing text h.whole h.built right inside;
+      accepted = shows_nothing text h.whole h.built right (λ kind place w. lower kind place (held_aromatic text bs held h kind place w)) inside;
       atoms = h.atoms ∙ all_held (atoms_in text) isotopes classes;
       bonds = h.bonds;
-      limits = record {
-        few_atoms = low (length held) (λ more. within LimitAtoms (length held) (refl, more));
-        few_bonds = low (length bs) (λ more. within LimitBonds (length (map bond_of bs)) (refl, subst (λ (n : ℕ). limit < n) (sym (length-map bs bond_of)) more));
-        sound = sound text bs held h right;
-      };
+      limits = record { few_atoms = few_ones.0; few_bonds = few_ones.1; sound = sound text bs held h right; candidates = are };
     }

@@ -1,7 +1,7 @@
 -- The first fault of the tokens of a text.
-use Rattle.std.proofs.Common.{arith, ◌≡◌, ◌∙◌, ℕ, zero, suc, ◌+◌, ◌≤◌, ◌<◌, List, [], ◌∷◌, length, reverse, Bool, true, false, Some, None, refl, sym, inl, inr}
-use Rattle.std.specs.Prelude.{slice_get}
+use Rattle.std.proofs.Common.{arith, ◌≡◌, ◌∙◌, ℕ, ◌+◌, ◌≤◌, ◌<◌, List, length, reverse, Bool, true, false, Some, None, refl, sym, inl, inr}
 use Rattle.std.proofs.lemmas.Bool.{cases_lt, false≢true}
+use Rattle.std.proofs.lemmas.Option.{slice_get_past}
 use Rattle.mc_base.specs.declared.kind.Kind.{Kind}
 use Rattle.mc_base.specs.declared.kind.Kind.TheVariants.{BadOrder, ParenOpen, RingOpen, RingClash, RingPair}
 use Rattle.mc_base.specs.Kinds.{number}
@@ -18,20 +18,15 @@ use Rattle.smi_graph.specs.Faults.{IsFirstFault}
 pub not_both : (b : Bool) → b ≡ true → b ≡ false → ⊥
 not_both b holds fails = false≢true (sym fails ∙ holds)
 
-pub past : {A : Type 0} (ks : List A) (i : ℕ) → length ks ≤ i → slice_get ks i ≡ None
-past [] i le = refl
-past (k ∷ ks) zero le = absurd (omega arith)
-past (k ∷ ks) (suc i) le = past ks i (omega arith)
-
 -- beside a token, no test of a token passes
 pub unclosed_past : (ks : List Role) (i : ℕ) → length ks ≤ i → unclosed_at ks i ≡ false
-unclosed_past ks i le = rw (past ks i le) refl
+unclosed_past ks i le = rw (slice_get_past ks i le) refl
 
 pub clash_past : (ks : List Role) (i : ℕ) → length ks ≤ i → clash_at ks i ≡ false
-clash_past ks i le = rw (past ks i le) refl
+clash_past ks i le = rw (slice_get_past ks i le) refl
 
 pub pair_past : (ks : List Role) (i : ℕ) → length ks ≤ i → pair_again_at ks i ≡ false
-pair_past ks i le = rw (past ks i le) refl
+pair_past ks i le = rw (slice_get_past ks i le) refl
 
 no_open : (n : ℕ) (before : List Role) (end : RingEnd) → open_end n before ≡ None → open_end n before ≡ Some end → ⊥
 no_open n before end none some = cc
@@ -43,7 +38,7 @@ nowhere p n i past none holds = elim (cases_lt i n) [
   | inr more ↦ not_both (p i) holds (past i (omega arith))
 ]
 
-earliest : (p : ℕ → Bool) (n i j : ℕ) → IsFirstOf p n (Some i) → p j ≡ true → i ≤ j
+pub earliest : (p : ℕ → Bool) (n i j : ℕ) → IsFirstOf p n (Some i) → p j ≡ true → i ≤ j
 earliest p n i j first holds = elim (cases_lt j i) [
   | inl less ↦ absurd (not_both (p j) holds (first.2 j less))
   | inr more ↦ omega arith

@@ -2,6 +2,7 @@ pub mod Roles
 pub mod Order
 pub mod Bonds
 pub mod Links
+pub mod Candidates
 pub mod RingRules
 pub mod Rules
 pub mod Branches
@@ -9,4 +10,5 @@ pub mod RingTables
 pub mod Firsts
 pub mod Reading
 pub mod Skeletons
+pub mod Spreading
 pub mod Faults

@@ -1,11 +1,11 @@
 -- What a reader keeps of the tokens so far.
 use Rattle.std.specs.List.{list_all}
-use Rattle.std.specs.Prelude.{◌≡◌, ◌≤◌, ℕ, Bool, List, Option, Some, None, length, map, take, min, All, AllPairs, not, ◌||◌}
+use Rattle.std.specs.Prelude.{◌≡◌, ◌≤◌, ℕ, Bool, true, false, List, [], ◌∷◌, Option, Some, None, length, map, take, min, All, AllPairs, not, ◌||◌, ◌&&◌}
 use Rattle.smi_graph.specs.declared.skel_atom.SkelAtom.{SkelAtom}
 use Rattle.smi_lex.specs.declared.token.BondMark.{BondMark}
 use Rattle.smi_lex.specs.declared.token.Token.{Token}
 use Rattle.smi_graph.specs.declared.role.Role.{Role}
-use Rattle.smi_graph.specs.declared.role.Role.TheVariants.{Bond}
+use Rattle.smi_graph.specs.declared.role.Role.TheVariants.{Atom, Bond, Ring, Enter, Leave, Dot}
 use Rattle.smi_graph.specs.declared.text_bond.TextBond.{TextBond}
 use Rattle.smi_graph.specs.declared.token_order.TokenOrder.{TokenOrder}
 use Rattle.smi_graph.specs.declared.structure.Structure.{Structure}
@@ -15,6 +15,7 @@ use Rattle.smi_graph.specs.RingTables.{HoldsEnds}
 use Rattle.smi_graph.specs.Firsts.{AreFirst}
 use Rattle.smi_graph.specs.Order.{latest, is_stray_bond, depth, tokens_before}
 use Rattle.smi_graph.specs.Bonds.{atom_count, text_bonds}
+use Rattle.smi_graph.specs.Candidates.{is_aromatic}
 use Rattle.smi_graph.specs.Roles.{roles, atoms_of}
 use Rattle.smi_graph.specs.Rules.{is_built_kind, has_high_isotope, has_high_class, has_high_charge}
 
@@ -48,6 +49,19 @@ held_atom atom = record atom { isotope = min atom.isotope 65535; class = min ato
 abbrev pub is_within_limits : SkelAtom → Bool
 is_within_limits atom = not (has_high_isotope atom || (has_high_class atom || has_high_charge atom))
 
+-- no lower-case atom and no `:`
+abbrev pub is_plain : Role → Bool
+is_plain (Atom lower) = not lower
+is_plain (Bond mark) = not (is_aromatic (Some mark))
+is_plain (Ring number) = true
+is_plain Enter = true
+is_plain Leave = true
+is_plain Dot = true
+
+abbrev pub all_plain : List Role → Bool
+all_plain [] = true
+all_plain (k ∷ before) = all_plain before && is_plain k
+
 -- The structure has the bonds of these tokens, the latest first, and what is open behind them.
 pub record Reads (s : Structure) (before : List Role) : Type 0 where
   pub bonds : s.bonds.items ≡ text_bonds before
@@ -74,4 +88,5 @@ pub record HasRead (ts : List Token) (r : Reader) : Type 0 where
   pub atoms : r.atoms.items ≡ map held_atom (atoms_of (take r.structure.tokens ts))
   pub within_limits : r.all_within_limits ≡ list_all is_within_limits r.atoms.items
   pub built : r.all_built ≡ list_all (λ token. is_built_kind token.kind) (take r.structure.tokens ts)
+  pub plain : r.all_plain ≡ all_plain (tokens_before (roles ts) r.structure.tokens)
   pub follows : Follows (roles ts) r.structure

@@ -1,9 +1,10 @@
 -- The rules of the kinds that speak of a text's tokens: at which places each kind stands.
 use Rattle.std.specs.List.{list_all}
-use Rattle.std.specs.Prelude.{◌≡◌, ℕ, ◌+◌, ◌-◌, ◌≤◌, ◌<◌, Bool, true, false, not, ◌&&◌, List, [], Option, Some, None, nat_lt, slice_get, slice_index_or, is_none, map, length, reverse, nat_abs}
+use Rattle.std.specs.Prelude.{◌≡◌, ℕ, ◌+◌, ◌-◌, ◌≤◌, ◌<◌, Bool, true, false, List, [], Option, Some, None, nat_lt, slice_get, slice_index_or, is_none, map, length, reverse, nat_abs}
 use Rattle.mc_base.specs.declared.kind.Kind.{Kind}
-use Rattle.mc_base.specs.declared.kind.Kind.TheVariants.{NotBuilt, BadToken, Wildcard, OtherChirality, BadOrder, ParenOpen, RingOpen, RingClash, RingPair, LimitAtoms, LimitBonds, LimitRings, LimitIsotope, LimitClass, LimitCharge}
+use Rattle.mc_base.specs.declared.kind.Kind.TheVariants.{NotBuilt, BadToken, Wildcard, OtherChirality, BadOrder, ParenOpen, RingOpen, RingClash, RingPair, AromaticBond, LimitAtoms, LimitBonds, LimitRings, LimitIsotope, LimitClass, LimitCharge}
 use Rattle.mc_mol.specs.declared.parts.Bond as bond
+use Rattle.mc_mol.specs.declared.limits.TheConstants.{ATOM_LIMIT, BOND_LIMIT, RING_LIMIT, ISOTOPE_LIMIT, CLASS_LIMIT, CHARGE_LIMIT}
 use Rattle.mc_mol.specs.Parts.{independent_rings}
 use Rattle.smi_lex.specs.declared.token.BondMark.{BondMark}
 use Rattle.smi_lex.specs.declared.token.BondMark.TheVariants.{Single, Double, Triple, Quadruple, Aromatic, Slash, Backslash}
@@ -19,6 +20,7 @@ use Rattle.smi_graph.specs.Order.{misplaced_at, unclosed_at}
 use Rattle.smi_graph.specs.declared.text_bond.TextBond.{TextBond}
 use Rattle.smi_graph.specs.Bonds.{open_end, text_bonds}
 use Rattle.smi_graph.specs.Links.{bond_of}
+use Rattle.smi_graph.specs.Candidates.{bond_fails}
 use Rattle.smi_graph.specs.RingRules.{clash_at, pair_again_at}
 
 abbrev pub roles_in : List ℕ → List Role
@@ -45,14 +47,14 @@ is_built_mark Single = true
 is_built_mark Double = true
 is_built_mark Triple = true
 is_built_mark Quadruple = true
-is_built_mark Aromatic = false
+is_built_mark Aromatic = true
 is_built_mark Slash = false
 is_built_mark Backslash = false
 
--- no lower-case atom, chirality, `:`, `/` or `\` is read today
+-- no chirality, `/` or `\` is read today
 abbrev pub is_built_kind : TokenKind → Bool
-is_built_kind (kind.Bare element lower) = not lower
-is_built_kind (kind.Bracket element lower isotope chiral hydrogens charge class) = not lower && is_none chiral
+is_built_kind (kind.Bare element lower) = true
+is_built_kind (kind.Bracket element lower isotope chiral hydrogens charge class) = is_none chiral
 is_built_kind (kind.Bond mark) = is_built_mark mark
 is_built_kind (kind.Ring number) = true
 is_built_kind kind.Enter = true
@@ -64,23 +66,14 @@ is_built text = list_all (λ token. is_built_kind token.kind) (tokens text)
 
 -- The limits (this project's own)
 
-abbrev pub limit : ℕ
-limit = 999
-
-abbrev pub ring_limit : ℕ
-ring_limit = 99
-
-abbrev pub charge_limit : ℕ
-charge_limit = 15
-
 abbrev pub has_high_isotope : SkelAtom → Bool
-has_high_isotope atom = nat_lt limit atom.isotope
+has_high_isotope atom = nat_lt ISOTOPE_LIMIT atom.isotope
 
 abbrev pub has_high_class : SkelAtom → Bool
-has_high_class atom = nat_lt limit atom.class
+has_high_class atom = nat_lt CLASS_LIMIT atom.class
 
 abbrev pub has_high_charge : SkelAtom → Bool
-has_high_charge atom = nat_lt charge_limit (nat_abs atom.charge)
+has_high_charge atom = nat_lt CHARGE_LIMIT (nat_abs atom.charge)
 
 abbrev pub fails : (SkelAtom → Bool) → Option SkelAtom → Bool
 fails p None = false
@@ -101,6 +94,11 @@ WrongAt ks RingClash i = clash_at ks i ≡ true
 WrongAt ks RingPair i = pair_again_at ks i ≡ true
 WrongAt ks _ i = ⊥
 
+-- some bond is `:` and has an end in upper case; bonds count from 1
+abbrev pub AromaticAt : List SkelAtom → List TextBond → Kind → ℕ → Type 0
+AromaticAt atoms bonds AromaticBond place = (k : ℕ) × (place ≡ k + 1) × (bond_fails atoms (slice_get bonds k) ≡ true)
+AromaticAt atoms bonds _ place = ⊥
+
 -- a count is above its limit, and is the place
 abbrev pub IsAbove : ℕ → ℕ → ℕ → Type 0
 IsAbove count most place = (place ≡ count) × (most < count)
@@ -111,9 +109,9 @@ AtomFails atoms p place = (k : ℕ) × (place ≡ k + 1) × (fails p (slice_get 
 
 -- a kind stands by a limit
 abbrev pub BeyondAt : List SkelAtom → List bond.Bond → Kind → ℕ → Type 0
-BeyondAt atoms bonds LimitAtoms place = IsAbove (length atoms) limit place
-BeyondAt atoms bonds LimitBonds place = IsAbove (length bonds) limit place
-BeyondAt atoms bonds LimitRings place = IsAbove (independent_rings bonds (length atoms)) ring_limit place
+BeyondAt atoms bonds LimitAtoms place = IsAbove (length atoms) ATOM_LIMIT place
+BeyondAt atoms bonds LimitBonds place = IsAbove (length bonds) BOND_LIMIT place
+BeyondAt atoms bonds LimitRings place = IsAbove (independent_rings bonds (length atoms)) RING_LIMIT place
 BeyondAt atoms bonds LimitIsotope place = AtomFails atoms has_high_isotope place
 BeyondAt atoms bonds LimitClass place = AtomFails atoms has_high_class place
 BeyondAt atoms bonds LimitCharge place = AtomFails atoms has_high_charge place
@@ -134,6 +132,7 @@ BreaksAt text ParenOpen place = TokenFails text ParenOpen place
 BreaksAt text RingOpen place = TokenFails text RingOpen place
 BreaksAt text RingClash place = TokenFails text RingClash place
 BreaksAt text RingPair place = TokenFails text RingPair place
+BreaksAt text AromaticBond place = AromaticAt (atoms_in text) (text_bonds_in text) AromaticBond place
 BreaksAt text LimitAtoms place = BeyondAt (atoms_in text) (bonds_in text) LimitAtoms place
 BreaksAt text LimitBonds place = BeyondAt (atoms_in text) (bonds_in text) LimitBonds place
 BreaksAt text LimitRings place = BeyondAt (atoms_in text) (bonds_in text) LimitRings place

@@ -1,5 +1,5 @@
 -- What a text is read as.
-use Rattle.std.specs.Prelude.{◌≡◌, ℕ, ◌≤◌, List, false, length, map, All, AllPairs}
+use Rattle.std.specs.Prelude.{◌≡◌, ℕ, ◌≤◌, Bool, true, false, List, Option, length, map, option_map, slice_get, All, AllPairs}
 use Rattle.mc_base.specs.declared.ids.AtomId.{AtomId}
 use Rattle.mc_base.specs.declared.kind.Kind.{Kind}
 use Rattle.mc_base.specs.declared.refusal.Stop.{Stop}
@@ -9,31 +9,44 @@ use Rattle.mc_mol.specs.declared.parts.Bond as bond
 use Rattle.mc_mol.specs.Molecule.{joins}
 use Rattle.mc_mol.specs.WellFormed.{IsBond}
 use Rattle.smi_graph.specs.declared.skel_atom.SkelAtom.{SkelAtom}
-use Rattle.smi_graph.specs.declared.skeleton.Link.TheVariants.{Order}
+use Rattle.smi_graph.specs.declared.skeleton.Link.{Link}
+use Rattle.smi_graph.specs.declared.skeleton.Link.TheVariants.{Order, Candidate}
 use Rattle.smi_graph.specs.declared.skeleton.SkelBond.{SkelBond}
 use Rattle.smi_graph.specs.declared.text_bond.TextBond.{TextBond}
 use Rattle.smi_graph.specs.Links.{bond_of, order_of, symbol}
+use Rattle.smi_graph.specs.Candidates.{marked, AreCandidates}
 use Rattle.smi_graph.specs.Rules.{atoms_in, text_bonds_in, BreaksAt}
 
--- the atoms of a text, in its order, and its bonds, in the order of the tokens that complete them
+-- the atoms of a text, in its order, its bonds, in the order of the tokens that complete them, and which of these are
+-- marked as candidates
 pub record TextGraph : Type 0 where
   pub atoms : List SkelAtom
   pub bonds : List TextBond
+  pub candidates : List Bool
 
 -- bonds between so many atoms, no pair twice
 pub record AreBonds (atoms : ℕ) (bonds : List bond.Bond) : Type 0 where
   pub each : All (IsBond atoms) bonds
   pub once : AllPairs (λ (b c : bond.Bond). joins b c.first.0 c.second.0 ≡ false) bonds
 
--- at most 999 atoms and bonds; bonds between these atoms, no pair twice
+-- at most 999 atoms and bonds; bonds between these atoms, no pair twice; the candidates are marked
 pub record IsTextGraph (graph : TextGraph) : Type 0 where
   pub few_atoms : length graph.atoms ≤ 999
   pub few_bonds : length graph.bonds ≤ 999
   pub sound : AreBonds (length graph.atoms) (map bond_of graph.bonds)
+  pub candidates : AreCandidates graph.atoms graph.bonds graph.candidates
 
--- a bond of a skeleton: no double bond is placed today, so its order is known
-abbrev pub linked : TextBond → SkelBond
-linked b = record { first = b.first; second = b.second; link = Order (order_of (symbol b)) }
+-- a candidate is single or double; of every other bond the order is known
+abbrev pub link_of : Bool → TextBond → Link
+link_of true b = Candidate
+link_of false b = Order (order_of (symbol b))
+
+abbrev pub linked : Bool → TextBond → SkelBond
+linked is_candidate b = record { first = b.first; second = b.second; link = link_of is_candidate b }
+
+-- bond k of a skeleton
+abbrev pub linked_at : TextGraph → ℕ → Option SkelBond
+linked_at graph k = option_map (linked (marked graph.candidates k)) (slice_get graph.bonds k)
 
 -- the skeleton of a text of which no kind stands: its atoms and its bonds
 pub record IsSkeleton (text : List ℕ) (graph : TextGraph) : Type 0 where
@@ -42,7 +55,7 @@ pub record IsSkeleton (text : List ℕ) (graph : TextGraph) : Type 0 where
   pub bonds : graph.bonds ≡ text_bonds_in text
   pub limits : IsTextGraph graph
 
--- nothing is a barrier: no lower-case atom is read
+-- nothing is a barrier: no double bond is placed
 abbrev pub IsNoBarrier : List AtomId → ℕ → Type 0
 IsNoBarrier barrier odd = ⊥
 

@@ -1,7 +1,9 @@
 //! The skeleton of a SMILES text: which tokens may stand where, and which atoms its bonds join.
 #![tactic(auto)]
 
+mod aromatic_bonds;
 mod branches;
+mod candidates;
 mod first_faults;
 mod joined;
 mod limits;

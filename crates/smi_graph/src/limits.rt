@@ -1,43 +1,37 @@
 ghost use Rattle.std.specs.List.{list_all};
 ghost use Rattle.std.specs.Prelude.{◌≡◌, map, ◌<◌, ◌≤◌, ◌^◌, ◌-◌, IfOk, IfSome, IfNone, length, slice_get};
 ghost use Rattle.mc_base.specs.declared.span.Span.{Span as Part};
+ghost use Rattle.mc_mol.specs.declared.limits.TheConstants.{ATOM_LIMIT, BOND_LIMIT, RING_LIMIT};
 ghost use Rattle.mc_mol.specs.Parts.{independent_rings};
 ghost use Rattle.smi_graph.specs.Faults.{IsFirstFault};
 ghost use Rattle.smi_graph.specs.Firsts.{IsFirstOf};
 ghost use Rattle.smi_graph.specs.Links.{bond_of};
 ghost use Rattle.smi_graph.specs.Reading.{held_atom, is_within_limits};
 ghost use Rattle.smi_graph.specs.Roles.{atom_of};
-ghost use Rattle.smi_graph.specs.Rules.{fails, has_high_isotope, has_high_class, has_high_charge, ring_limit, BeyondAt};
+ghost use Rattle.smi_graph.specs.Rules.{fails, has_high_isotope, has_high_class, has_high_charge, BeyondAt};
 ghost use Rattle.smi_graph.specs.Skeletons.{AreBonds};
 
 use crate::first_faults::Fault;
 use crate::{SkelAtom, TextBond, bonds_with_orders};
 use mc_base::Kind;
-use mc_mol::independent_rings;
+use mc_mol::{
+    ATOM_LIMIT, BOND_LIMIT, CHARGE_LIMIT, CLASS_LIMIT, ISOTOPE_LIMIT, RING_LIMIT, independent_rings,
+};
 use smi_lex::TokenKind;
 use std::alloc::{AllocError, Global};
-
-/// The greatest number of atoms and of bonds, the greatest isotope and the greatest class.
-const LIMIT: usize = 999;
-
-/// The greatest number of independent rings.
-const RING_LIMIT: u32 = 99;
-
-/// The greatest amount of a charge.
-const CHARGE_LIMIT: u8 = 15;
 
 /// The first atom whose isotope is above the limit.
 fn first_high_isotope(atoms: &[SkelAtom]) -> Option<usize>
     ensures { IsFirstOf (λ k. fails has_high_isotope (slice_get atoms.now k)) (length atoms.now) result }
 {
-    atoms.iter().position(|atom| atom.isotope as usize > LIMIT)
+    atoms.iter().position(|atom| atom.isotope > ISOTOPE_LIMIT)
 }
 
 /// The first atom whose class is above the limit.
 fn first_high_class(atoms: &[SkelAtom]) -> Option<usize>
     ensures { IsFirstOf (λ k. fails has_high_class (slice_get atoms.now k)) (length atoms.now) result }
 {
-    atoms.iter().position(|atom| atom.class as usize > LIMIT)
+    atoms.iter().position(|atom| atom.class > CLASS_LIMIT)
 }
 
 /// The first atom whose charge is beyond the limit.
@@ -60,8 +54,8 @@ pub fn is_within(kind: TokenKind) -> bool
             charge,
             class,
             ..
-        } => isotope <= LIMIT as u32
-            && class <= LIMIT as u32
+        } => isotope <= ISOTOPE_LIMIT as u32
+            && class <= CLASS_LIMIT as u32
             && charge.unsigned_abs() <= CHARGE_LIMIT,
         TokenKind::Bare { .. }
         | TokenKind::Bond(_)
@@ -79,10 +73,10 @@ fn rings_above(
     bonds: &[TextBond],
 ) -> Result<Option<u32>, AllocError>
     requires sound { AreBonds (length atoms.now) (map bond_of bonds.now) }
-    requires few_atoms { length atoms.now ≤ 999 }
-    requires few_bonds { length bonds.now ≤ 999 }
-    ensures above { IfOk result (λ found. IfSome found (λ rings. (rings ≡ independent_rings (map bond_of bonds.now) (length atoms.now)) × (ring_limit < rings))) }
-    ensures few { IfOk result (λ found. IfNone found (independent_rings (map bond_of bonds.now) (length atoms.now) ≤ ring_limit)) }
+    requires few_atoms { length atoms.now ≤ ATOM_LIMIT }
+    requires few_bonds { length bonds.now ≤ BOND_LIMIT }
+    ensures above { IfOk result (λ found. IfSome found (λ rings. (rings ≡ independent_rings (map bond_of bonds.now) (length atoms.now)) × (RING_LIMIT < rings))) }
+    ensures few { IfOk result (λ found. IfNone found (independent_rings (map bond_of bonds.now) (length atoms.now) ≤ RING_LIMIT)) }
 {
     // no more rings than bonds
     if bonds.len() <= RING_LIMIT as usize {
@@ -111,13 +105,13 @@ pub fn limit_fault(
     requires within { are_within ≡ list_all is_within_limits atoms.now }
     ensures { IfOk result (IsFirstFault (BeyondAt atoms.now (map bond_of bonds.now))) }
 {
-    if atoms.len() > LIMIT {
+    if atoms.len() > ATOM_LIMIT {
         return Ok(Some(Fault {
             kind: Kind::LimitAtoms,
             place: atoms.len() as u32,
         }));
     }
-    if bonds.len() > LIMIT {
+    if bonds.len() > BOND_LIMIT {
         return Ok(Some(Fault {
             kind: Kind::LimitBonds,
             place: bonds.len() as u32,

@@ -2,6 +2,8 @@ ghost use Rattle.std.specs.Prelude.{◌<◌, ◌^◌, ◌-◌, IfOk, IfErr, leng
 ghost use Rattle.smi_graph.specs.Skeletons.{IsSkeleton, IsBroken};
 
 use crate::Skeleton;
+use crate::aromatic_bonds::aromatic_fault;
+use crate::candidates::candidates;
 use crate::limits::limit_fault;
 use crate::reader::read_tokens;
 use crate::tokens::byte_place;
@@ -25,13 +27,14 @@ pub fn read_skeleton(alloc: Global, text: &[u8]) -> Result<Skeleton, Stop>
         let place = byte_place(text, fault.place);
         return Err(Stop::Refused(Refusal::at(alloc, fault.kind, place)));
     }
-    if let Some(fault) = limit_fault(
-        alloc,
-        &reader.atoms,
-        reader.structure.bonds(),
-        reader.all_within_limits,
-    )? {
+    let atoms = reader.atoms.as_slice();
+    let bonds = reader.structure.bonds();
+    if let Some(fault) = aromatic_fault(atoms, bonds, reader.all_plain) {
         return Err(Stop::Refused(Refusal::at(alloc, fault.kind, fault.place)));
     }
-    Ok(Skeleton::new(reader.atoms, reader.structure.into_bonds()))
+    if let Some(fault) = limit_fault(alloc, atoms, bonds, reader.all_within_limits)? {
+        return Err(Stop::Refused(Refusal::at(alloc, fault.kind, fault.place)));
+    }
+    let candidates = candidates(alloc, atoms, bonds, reader.all_plain)?;
+    Ok(Skeleton::new(reader.atoms, reader.structure.into_bonds(), candidates))
 }

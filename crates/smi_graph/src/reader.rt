@@ -4,6 +4,7 @@ ghost use Rattle.smi_graph.specs.Reading.{HasRead, IsBounded};
 ghost use Rattle.smi_graph.specs.Skeletons.{IsBroken};
 
 use crate::limits::is_within;
+use crate::role::is_plain;
 use crate::skel_atom::push_atom;
 use crate::structure::Structure;
 use crate::tokens::is_built_kind;
@@ -26,6 +27,8 @@ pub struct Reader {
     pub structure: Structure,
     /// whether the values of all atoms are within their limits
     pub all_within_limits: bool,
+    /// whether none of the tokens is a lower-case atom or `:`
+    pub all_plain: bool,
     /// whether all of them are read today
     pub all_built: bool,
 }
@@ -48,6 +51,7 @@ impl Reader {
             atoms: Vec::with_capacity(alloc, room)?,
             structure: Structure::with_room(alloc, room)?,
             all_within_limits: true,
+            all_plain: true,
             all_built: true,
         })
     }
@@ -64,6 +68,7 @@ impl Reader {
     {
         self.all_within_limits = both(self.all_within_limits, is_within(token.kind));
         self.all_built = both(self.all_built, is_built_kind(token.kind));
+        self.all_plain = both(self.all_plain, is_plain(role));
         push_atom(&mut self.atoms, token.kind, token.span)?;
         self.structure.read(role)?;
         Ok(())

@@ -1,4 +1,5 @@
 ghost use Rattle.std.specs.Prelude.{◌≡◌};
+ghost use Rattle.smi_graph.specs.Reading.{is_plain};
 ghost use Rattle.smi_graph.specs.Roles.{role_of};
 
 use smi_lex::{BondMark, TokenKind};
@@ -26,5 +27,28 @@ pub fn role_of(kind: TokenKind) -> Role
         TokenKind::Enter => Role::Enter,
         TokenKind::Leave => Role::Leave,
         TokenKind::Dot => Role::Dot,
+    }
+}
+
+/// Whether a token is neither a lower-case atom nor `:`, so that nothing of it is left to be decided.
+#[inline(always)]
+pub fn is_plain(role: Role) -> bool
+    ensures { result ≡ is_plain role }
+{
+    match role {
+        Role::Atom { lower } => !lower,
+        Role::Bond(BondMark::Aromatic) => false,
+        Role::Bond(
+            BondMark::Single
+            | BondMark::Double
+            | BondMark::Triple
+            | BondMark::Quadruple
+            | BondMark::Slash
+            | BondMark::Backslash,
+        )
+        | Role::Ring(_)
+        | Role::Enter
+        | Role::Leave
+        | Role::Dot => true,
     }
 }

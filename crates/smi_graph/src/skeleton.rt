@@ -1,3 +1,7 @@
+ghost use Rattle.std.specs.Prelude.{◌≡◌};
+ghost use Rattle.smi_graph.specs.Skeletons.{link_of};
+
+use crate::candidates::is_marked;
 use crate::{SkelAtom, TextBond};
 use mc_base::{AtomId, BondId};
 use std::marker::Model;
@@ -18,11 +22,24 @@ pub struct SkelBond {
     pub link: Link,
 }
 
+/// What is known of a bond that is a candidate or isn't.
+fn link_of(is_candidate: bool, bond: TextBond) -> Link
+    ensures { result ≡ link_of is_candidate bond }
+{
+    if is_candidate {
+        Link::Candidate
+    } else {
+        Link::Order(bond.order())
+    }
+}
+
 /// The atoms and bonds of a text. Atoms have the order of the text, bonds that of the tokens that complete them.
 #[derive(Drop)]
 pub struct Skeleton {
     atoms: Vec<SkelAtom>,
     bonds: Vec<TextBond>,
+    /// for each bond whether it is a candidate; nothing where no atom is in lower case
+    candidates: Vec<bool>,
 }
 
 impl Model for Skeleton {
@@ -30,20 +47,25 @@ impl Model for Skeleton {
 
     ghost Value = { TextGraph };
 
-    ghost view = { λ s. record { atoms = s.atoms.items; bonds = s.bonds.items } };
+    ghost view = { λ s. record { atoms = s.atoms.items; bonds = s.bonds.items; candidates = s.candidates.items } };
 
-    ghost invariant = { λ s. IsTextGraph (record { atoms = s.atoms.items; bonds = s.bonds.items }) };
+    ghost invariant = { λ s. IsTextGraph (record { atoms = s.atoms.items; bonds = s.bonds.items; candidates = s.candidates.items }) };
 }
 
 impl Skeleton {
-    ghost use Rattle.std.specs.Prelude.{◌≡◌, ◌<◌, ◌≤◌, length, slice_get, option_map, Some};
-    ghost use Rattle.smi_graph.specs.Skeletons.{linked, IsTextGraph};
+    ghost use Rattle.std.specs.Prelude.{◌≡◌, ◌<◌, ◌≤◌, length, slice_get, Some};
+    ghost use Rattle.smi_graph.specs.Candidates.{marked};
+    ghost use Rattle.smi_graph.specs.Skeletons.{linked_at, IsTextGraph};
 
-    pub(crate) fn new(atoms: Vec<SkelAtom>, bonds: Vec<TextBond>) -> Skeleton
-        requires { IsTextGraph (record { atoms = atoms.items; bonds = bonds.items }) }
-        ensures { result ≡ record { atoms = atoms.items; bonds = bonds.items } }
+    pub(crate) fn new(atoms: Vec<SkelAtom>, bonds: Vec<TextBond>, candidates: Vec<bool>) -> Skeleton
+        requires { IsTextGraph (record { atoms = atoms.items; bonds = bonds.items; candidates = candidates.items }) }
+        ensures { result ≡ record { atoms = atoms.items; bonds = bonds.items; candidates = candidates.items } }
     {
-        Skeleton { atoms, bonds }
+        Skeleton {
+            atoms,
+            bonds,
+            candidates,
+        }
     }
 
     pub fn atom_count(&self) -> u32
@@ -70,14 +92,21 @@ impl Skeleton {
     /// A bond; its first atom is the predecessor, or that of the opening ring number.
     pub fn bond(&self, b: BondId) -> SkelBond
         requires { b.0 < length self.now.bonds }
-        ensures { Some result ≡ option_map linked (slice_get self.now.bonds b.0) }
+        ensures { Some result ≡ linked_at self.now b.0 }
     {
         let bond = self.bonds[b.0 as usize];
         SkelBond {
             first: bond.first,
             second: bond.second,
-            link: Link::Order(bond.order()),
+            link: link_of(self.is_candidate(b), bond),
         }
+    }
+
+    /// Whether a bond is single or double, and nothing in the text says which.
+    pub fn is_candidate(&self, b: BondId) -> bool
+        ensures { result ≡ marked self.now.candidates b.0 }
+    {
+        is_marked(&self.candidates, b.0 as usize)
     }
 
     /// All atoms, in the order of the text.

@@ -1,3 +1,4 @@
+mod lower_case;
 mod plain;
 
 use crate::{Link, SkelAtom, SkelBond, Skeleton, bonds_with_orders, read_skeleton};
@@ -90,16 +91,14 @@ fn what_is_not_read_yet(rt: HostRuntime) {
     refuses(
         &rt,
         &[
-            ("c1ccccc1", Kind::NotBuilt, 1),
-            ("CC[se]", Kind::NotBuilt, 1),
-            ("C:C", Kind::NotBuilt, 1),
             ("F/C=C/F", Kind::NotBuilt, 1),
             ("F\\C=C\\F", Kind::NotBuilt, 1),
             ("N[C@@H](C)C(=O)O", Kind::NotBuilt, 1),
             ("F[C@H](Cl)Br", Kind::NotBuilt, 1),
             // also where another kind stands
-            ("C))c", Kind::NotBuilt, 1),
-            ("C1:", Kind::NotBuilt, 1),
+            ("C))[C@]", Kind::NotBuilt, 1),
+            ("c1/", Kind::NotBuilt, 1),
+            ("C:C\\", Kind::NotBuilt, 1),
         ],
     );
 }

@@ -23,11 +23,18 @@ impl TextBond {
     ghost use Rattle.std.specs.Prelude.{◌≡◌};
     ghost use Rattle.smi_graph.specs.Links.{order_of, symbol, bond_of};
 
+    /// The symbol of the bond, which either end may have.
+    pub fn symbol(self) -> Option<BondMark>
+        ensures { result ≡ symbol self }
+    {
+        or_else(self.opening, self.closing)
+    }
+
     /// The order that the symbol of the bond says, and 1 where it says none.
     pub fn order(self) -> u8
         ensures { result ≡ order_of (symbol self) }
     {
-        order_of(or_else(self.opening, self.closing))
+        order_of(self.symbol())
     }
 
     /// The bond with this order.

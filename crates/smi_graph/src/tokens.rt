@@ -12,8 +12,12 @@ fn is_built_mark(mark: BondMark) -> bool
     ensures { result ≡ is_built_mark mark }
 {
     match mark {
-        BondMark::Single | BondMark::Double | BondMark::Triple | BondMark::Quadruple => true,
-        BondMark::Aromatic | BondMark::Slash | BondMark::Backslash => false,
+        BondMark::Single
+        | BondMark::Double
+        | BondMark::Triple
+        | BondMark::Quadruple
+        | BondMark::Aromatic => true,
+        BondMark::Slash | BondMark::Backslash => false,
     }
 }
 
@@ -23,10 +27,13 @@ pub fn is_built_kind(kind: TokenKind) -> bool
     ensures { result ≡ is_built_kind kind }
 {
     match kind {
-        TokenKind::Bare { lower, .. } => !lower,
-        TokenKind::Bracket { lower, chiral, .. } => !lower && chiral.is_none(),
+        TokenKind::Bracket { chiral, .. } => chiral.is_none(),
         TokenKind::Bond(mark) => is_built_mark(mark),
-        TokenKind::Ring(_) | TokenKind::Enter | TokenKind::Leave | TokenKind::Dot => true,
+        TokenKind::Bare { .. }
+        | TokenKind::Ring(_)
+        | TokenKind::Enter
+        | TokenKind::Leave
+        | TokenKind::Dot => true,
     }
 }
 

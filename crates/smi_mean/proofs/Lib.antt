@@ -4,3 +4,6 @@ pub mod Building
 pub mod Refusals
 pub mod LowHydrogens
 pub mod Soundness
+pub mod Needing
+pub mod Placing
+pub mod PlacementTest

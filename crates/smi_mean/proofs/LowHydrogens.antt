@@ -7,6 +7,7 @@ use Rattle.mc_base.specs.declared.span.Span.{Span}
 use Rattle.mc_elements.specs.declared.element.Element.{Element}
 use Rattle.mc_elements.specs.declared.element.Element.TheVariants.{B, C, N, O, F, P, S, Cl, Br, I}
 use Rattle.mc_elements.specs.Valences.{implied, smiles_valences}
+use Rattle.smi_mean.specs.Meaning.{lower_hydrogens}
 use Rattle.smi_lex.specs.declared.token.Token.{Token}
 use Rattle.smi_lex.specs.declared.token.TokenKind.{TokenKind}
 use Rattle.smi_lex.specs.declared.token.TokenKind.TheVariants as kind
@@ -36,6 +37,19 @@ implied_low Cl sum = low_or 1 sum 0 (omega arith) (omega arith)
 implied_low Br sum = low_or 1 sum 0 (omega arith) (omega arith)
 implied_low I sum = low_or 1 sum 0 (omega arith) (omega arith)
 implied_low _ sum = omega arith
+
+pub lower_low : (e : Element) (sum : ℕ) → lower_hydrogens e sum ≤ 9
+lower_low B sum = omega arith
+lower_low C sum = omega arith
+lower_low N sum = omega arith
+lower_low O sum = omega arith
+lower_low P sum = omega arith
+lower_low S sum = omega arith
+lower_low F sum = omega arith
+lower_low Cl sum = omega arith
+lower_low Br sum = omega arith
+lower_low I sum = omega arith
+lower_low _ sum = omega arith
 
 -- the written hydrogens are one digit
 one_digit : (n : ℕ) (digits : List ℕ) → WritesDigits 1 1 n digits → n ≤ 9

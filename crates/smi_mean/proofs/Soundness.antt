@@ -2,12 +2,15 @@
 use Rattle.std.proofs.Common.{arith, ◌≡◌, ◌∙◌, ℕ, zero, suc, ◌+◌, ◌-◌, ◌≤◌, ◌<◌, List, [], ◌∷◌, length, Bool, true, false, Option, Some, None, refl, sym, ap, subst}
 use Rattle.std.specs.Prelude.{map, slice_get, option_map, nat_abs, nat_lt, if◌then◌else◌}
 use Rattle.std.proofs.lemmas.Bool.Decides.{nat_tests}
+use Rattle.std.proofs.lemmas.Bool.{false_from_ne_true, ltb-false}
 use Rattle.mc_base.specs.declared.kind.Kind.TheVariants.{LimitRings, LimitIsotope, LimitClass, LimitCharge}
 use Rattle.mc_elements.specs.Valences.{implied, smiles_valences}
 use Rattle.mc_mol.specs.declared.parts.Atom.{Atom}
 use Rattle.mc_mol.specs.declared.parts.Bond.{Bond}
 use Rattle.mc_mol.specs.Molecule.{Molecule, bond_sum}
 use Rattle.mc_mol.specs.Parts.{independent_rings}
+use Rattle.mc_mol.specs.declared.limits.TheConstants.{RING_LIMIT, ISOTOPE_LIMIT, CLASS_LIMIT, CHARGE_LIMIT}
+use Rattle.mc_mol.specs.Limits.{IsAtomWithinLimits}
 use Rattle.smi_lex.specs.Reading.{IsReading}
 use Rattle.smi_lex.specs.Tokens.{tokens, unread}
 use Rattle.smi_graph.specs.declared.skel_atom.SkelAtom.{SkelAtom}
@@ -15,10 +18,10 @@ use Rattle.smi_graph.specs.Rules.{atoms_in, bonds_in, fails, has_high_isotope, h
 use Rattle.smi_graph.specs.declared.text_bond.TextBond.{TextBond}
 use Rattle.smi_graph.specs.Links.{bond_of}
 use Rattle.smi_graph.specs.Skeletons.{TextGraph, IsSkeleton}
-use Rattle.smi_mean.specs.Meaning.{hydrogens_of, meant_atom, atoms_with, meaning_of}
+use Rattle.smi_mean.specs.Meaning.{bare_hydrogens, hydrogens_of, meant_atom, atoms_with, meaning_of}
 use Rattle.smi_mean.specs.Meant.{IsMeantBy}
-use Rattle.smi_mean.specs.Sound.{IsWithinLimits, IsSound}
-use Rattle.smi_mean.proofs.LowHydrogens.{implied_low, atoms_low}
+use Rattle.smi_mean.specs.Sound.{IsSound}
+use Rattle.smi_mean.proofs.LowHydrogens.{implied_low, lower_low, atoms_low}
 
 pub meant_at : (bonds : List Bond) (j : ℕ) (all : List SkelAtom) (k : ℕ) → slice_get (atoms_with bonds j all) k ≡ option_map (λ a. meant_atom a (bond_sum bonds (j + k))) (slice_get all k)
 meant_at bonds j [] k = refl
@@ -38,15 +41,8 @@ was f (Some a) b h = (a, refl, same (f a) b h)
     same : {B : Type 0} (x y : B) → Some x ≡ Some y → x ≡ y
     same x y h = cc
 
-not_true : (b : Bool) → (b ≡ true → ⊥) → b ≡ false
-not_true true h = absurd (h refl)
-not_true false h = refl
-
-low : (most n : ℕ) → nat_lt most n ≡ false → n ≤ most
-low most n h = grind (arith, nat_tests)
-
 below : (count most : ℕ) → ((place : ℕ) → (place ≡ count) × (most < count) → ⊥) → count ≤ most
-below count most none = low most count (not_true (nat_lt most count) (λ t. none count (refl, above t)))
+below count most none = ltb-false most count (false_from_ne_true (nat_lt most count) (λ t. none count (refl, above t)))
   where
     above : nat_lt most count ≡ true → most < count
     above t = grind (arith, nat_tests)
@@ -54,33 +50,39 @@ below count most none = low most count (not_true (nat_lt most count) (λ t. none
 few_hydrogens : (a : SkelAtom) (sum : ℕ) → a.hydrogens ≤ 9 → hydrogens_of a sum ≤ 9
 few_hydrogens a sum few = by_test a.bare
   where
-    by_test : (t : Bool) → (if t then implied (smiles_valences a.element) sum else a.hydrogens) ≤ 9
-    by_test true = implied_low a.element sum
+    by_case : (t : Bool) → bare_hydrogens t a.element sum ≤ 9
+    by_case true = lower_low a.element sum
+    by_case false = implied_low a.element sum
+
+    by_test : (t : Bool) → (if t then bare_hydrogens a.lower a.element sum else a.hydrogens) ≤ 9
+    by_test true = by_case a.lower
     by_test false = few
 
 pub sound_of : (text : List ℕ) (skeleton : TextGraph) (m : Molecule) → IsReading text 0 (tokens text) (length text - length (unread text)) → IsSkeleton text skeleton → IsMeantBy skeleton m → IsSound m
 sound_of text skeleton m reading s h =
     let is : m ≡ meaning_of (atoms_in text) (bonds_in text) =
     h.molecule ∙ (ap (λ (x : List SkelAtom). meaning_of x (map bond_of skeleton.bonds)) s.atoms ∙ ap (λ (x : List TextBond). meaning_of (atoms_in text) (map bond_of x)) s.bonds) in
-    let rings : independent_rings (bonds_in text) (length (atoms_in text)) ≤ 99 = below (independent_rings (bonds_in text) (length (atoms_in text))) 99 (λ place w. s.accepted LimitRings place w) in
+    let rings : independent_rings (bonds_in text) (length (atoms_in text)) ≤ RING_LIMIT = below (independent_rings (bonds_in text) (length (atoms_in text))) RING_LIMIT (λ place w. s.accepted LimitRings place w) in
     let len : length (atoms_with (bonds_in text) 0 (atoms_in text)) ≡ length (atoms_in text) = length_atoms (bonds_in text) 0 (atoms_in text) in
     record {
-      atoms = λ k atom at. by_atom k atom (was (λ a. meant_atom a (bond_sum (bonds_in text) (0 + k))) (slice_get (atoms_in text) k) atom
-          (sym (meant_at (bonds_in text) 0 (atoms_in text) k) ∙ (sym (ap (λ (x : Molecule). slice_get x.atoms k) is) ∙ at)));
-      rings = subst (λ (x : Molecule). independent_rings x.bonds (length x.atoms) ≤ 99) (sym is) (subst (λ (n : ℕ). independent_rings (bonds_in text) n ≤ 99) (sym len) rings);
-      valences = h.valences;
-      hydrogens = h.hydrogens;
+      within = record {
+        atoms = λ k atom at. by_atom k atom (was (λ a. meant_atom a (bond_sum (bonds_in text) (0 + k))) (slice_get (atoms_in text) k) atom
+            (sym (meant_at (bonds_in text) 0 (atoms_in text) k) ∙ (sym (ap (λ (x : Molecule). slice_get x.atoms k) is) ∙ at)));
+        rings = subst (λ (x : Molecule). independent_rings x.bonds (length x.atoms) ≤ RING_LIMIT) (sym is) (subst (λ (n : ℕ). independent_rings (bonds_in text) n ≤ RING_LIMIT) (sym len) rings);
+        valences = h.valences;
+        hydrogens = h.hydrogens;
+      };
       no_centres = rw is refl;
       no_sides = rw is refl;
     }
   where
     fine : (k : ℕ) (a : SkelAtom) (p : SkelAtom → Bool) → slice_get (atoms_in text) k ≡ Some a → (fails p (slice_get (atoms_in text) k) ≡ true → ⊥) → p a ≡ false
-    fine k a p at none = sym (ap (fails p) at) ∙ not_true (fails p (slice_get (atoms_in text) k)) none
+    fine k a p at none = sym (ap (fails p) at) ∙ false_from_ne_true (fails p (slice_get (atoms_in text) k)) none
 
-    by_atom : (k : ℕ) (atom : Atom) → (a : SkelAtom) × (slice_get (atoms_in text) k ≡ Some a) × (meant_atom a (bond_sum (bonds_in text) (0 + k)) ≡ atom) → IsWithinLimits atom
-    by_atom k atom (a, at, made) = subst IsWithinLimits made (record {
-      isotope = low 999 a.isotope (fine k a has_high_isotope at (λ holds. s.accepted LimitIsotope (k + 1) (k, refl, holds)));
-      class = low 999 a.class (fine k a has_high_class at (λ holds. s.accepted LimitClass (k + 1) (k, refl, holds)));
-      charge = low 15 (nat_abs a.charge) (fine k a has_high_charge at (λ holds. s.accepted LimitCharge (k + 1) (k, refl, holds)));
+    by_atom : (k : ℕ) (atom : Atom) → (a : SkelAtom) × (slice_get (atoms_in text) k ≡ Some a) × (meant_atom a (bond_sum (bonds_in text) (0 + k)) ≡ atom) → IsAtomWithinLimits atom
+    by_atom k atom (a, at, made) = subst IsAtomWithinLimits made (record {
+      isotope = ltb-false ISOTOPE_LIMIT a.isotope (fine k a has_high_isotope at (λ holds. s.accepted LimitIsotope (k + 1) (k, refl, holds)));
+      class = ltb-false CLASS_LIMIT a.class (fine k a has_high_class at (λ holds. s.accepted LimitClass (k + 1) (k, refl, holds)));
+      charge = ltb-false CHARGE_LIMIT (nat_abs a.charge) (fine k a has_high_charge at (λ holds. s.accepted LimitCharge (k + 1) (k, refl, holds)));
       hydrogens = few_hydrogens a _ (atoms_low text reading k a at);
     })

@@ -1,4 +1,6 @@
 pub mod Meaning
+pub mod Needs
+pub mod Placements
 pub mod Rules
 pub mod Meant
 pub mod Sound

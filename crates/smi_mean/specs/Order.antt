@@ -69,20 +69,20 @@ steps g (suc k) = onto (next_step g (steps g k)) (steps g k)
 abbrev pub order : Graph → List Step
 order g = steps g g.count
 
--- the place of an atom among the written ones, from 1; 0 where it isn't written
-abbrev pub place : List Step → ℕ → ℕ
-place [] u = 0
-place (s ∷ before) u = if s.atom == u then suc (length before) else place before u
+-- the rank of an atom among the written ones, from 1; 0 where it isn't written
+abbrev pub rank : List Step → ℕ → ℕ
+rank [] u = 0
+rank (s ∷ before) u = if s.atom == u then suc (length before) else rank before u
 
--- the place of a parent; 0 where there is none
-abbrev pub parent_place : List Step → Option ℕ → ℕ
-parent_place before None = 0
-parent_place before (Some p) = place before p
+-- the rank of a parent; 0 where there is none
+abbrev pub parent_rank : List Step → Option ℕ → ℕ
+parent_rank before None = 0
+parent_rank before (Some p) = rank before p
 
--- the places of the parents of the written atoms, in the order in which they are written
+-- the ranks of the parents of the written atoms, in the order in which they are written
 abbrev pub parents : List Step → List ℕ
 parents [] = []
-parents (s ∷ before) = parents before ++ parent_place before s.parent ∷ []
+parents (s ∷ before) = parents before ++ parent_rank before s.parent ∷ []
 
 -- the atoms in the order in which they are written
 abbrev pub atoms : List Step → List ℕ

@@ -81,19 +81,19 @@ text_from symbols rings n k (t ∷ ts) [] = []
 text_from symbols rings n k (t ∷ ts) (p ∷ qs) =
     before_atom symbols k p qs ++ (t ∷ (ring_tokens symbols rings n k ++ text_from symbols rings n (suc k) ts qs))
 
--- the atom at a place
+-- the atom of a rank
 abbrev pub at : Graph → ℕ → ℕ
 at g k = get_or (atoms (order g)) k 0
 
--- whether the atoms at these places have a bond that leads to no parent
+-- whether the atoms of these ranks have a bond that leads to no parent
 abbrev pub has_ring : Graph → ℕ → ℕ → Bool
 has_ring g j l = g.joined (at g j) (at g l) && not (get_or (parents (order g)) l 0 == suc j)
 
--- the symbol of the bond between the atoms at these places, by its order
+-- the symbol of the bond between the atoms of these ranks, by its order
 abbrev pub bond_symbol : Graph → ℕ → ℕ → Option BondMark
 bond_symbol g j l = symbol_of (g.order (at g j) (at g l))
 
--- the tokens of a graph whose atoms have these tokens and whose bonds, by the places of their atoms, have these symbols
+-- the tokens of a graph whose atoms have these tokens and whose bonds, by the ranks of their atoms, have these symbols
 abbrev pub graph_tokens : Graph → (ℕ → ℕ → Option BondMark) → (ℕ → TokenKind) → List TokenKind
 graph_tokens g symbols token =
     text_from symbols (λ j l. has_ring g j l) g.count 0 (map token (atoms (order g))) (parents (order g))

@@ -1,15 +1,12 @@
 ghost use Rattle.std.specs.Prelude.{◌≡◌, ℕ, ◌+◌, ◌≤◌, ◌<◌, IfOk, length, get_or};
 ghost use Rattle.mc_elements.specs.Valences.{implied, smiles_valences};
 ghost use Rattle.mc_mol.specs.Molecule.{bond_sum};
-ghost use Rattle.smi_mean.specs.Meaning.{hydrogens_of, meant_atom, atoms_with};
+ghost use Rattle.smi_mean.specs.Meaning.{lowest, lower_hydrogens, hydrogens_of, meant_atom, atoms_with};
 
 use mc_elements::{Element, implied, smiles_valences};
-use mc_mol::{Atom, Bond};
+use mc_mol::{Atom, Bond, VALENCE_LIMIT};
 use smi_graph::SkelAtom;
 use std::alloc::{AllocError, Global};
-
-/// The greatest sum of bond orders and hydrogens of an atom.
-pub const VALENCE_LIMIT: u32 = 14;
 
 /// The hydrogens of a bare atom; none where its bonds are above the limit anyway.
 #[tactic(auto, using(crate::proofs::NoneAbove::none_above))]
@@ -23,20 +20,45 @@ fn implied_hydrogens(element: Element, sum: u32) -> u8
     }
 }
 
+fn lowest(valences: &[u8]) -> u8
+    ensures { result ≡ lowest valences.now }
+{
+    match valences.first() {
+        Some(valence) => *valence,
+        None => 0,
+    }
+}
+
+/// The hydrogens of a bare atom in lower case: one valence is left for a double bond.
+fn lower_hydrogens(element: Element, sum: u32) -> u8
+    ensures { result ≡ lower_hydrogens element sum }
+{
+    let valence = lowest(smiles_valences(element)) as u32;
+    valence.saturating_sub(sum).saturating_sub(1) as u8
+}
+
+/// The hydrogens of an atom of a text, with this bond sum.
+pub fn hydrogens_of(atom: SkelAtom, sum: u32) -> u8
+    ensures { result ≡ hydrogens_of atom sum }
+{
+    if !atom.bare {
+        atom.hydrogens
+    } else if atom.lower {
+        lower_hydrogens(atom.element, sum)
+    } else {
+        implied_hydrogens(atom.element, sum)
+    }
+}
+
 /// What an atom of a text stands for, with this bond sum.
 fn meant_atom(atom: SkelAtom, sum: u32) -> Atom
     ensures { result ≡ meant_atom atom sum }
 {
-    let hydrogens = if atom.bare {
-        implied_hydrogens(atom.element, sum)
-    } else {
-        atom.hydrogens
-    };
     Atom {
         element: atom.element,
         isotope: atom.isotope,
         charge: atom.charge,
-        hydrogens,
+        hydrogens: hydrogens_of(atom, sum),
         class: atom.class,
     }
 }

@@ -9,7 +9,8 @@ use crate::atoms::atoms_with;
 use crate::faults::atom_refusal;
 use crate::line::text_end;
 use crate::molecule::molecule;
-use mc_base::{Span, Stop};
+use crate::need::some_needs;
+use mc_base::{Kind, Refusal, Span, Stop};
 use mc_mol::{Mol, bond_sums};
 use smi_graph::{Skeleton, bonds_with_orders, read_skeleton};
 use std::alloc::Global;
@@ -47,6 +48,9 @@ fn mean(alloc: Global, skeleton: &Skeleton) -> Result<Mol, Stop>
     let atoms = atoms_with(alloc, &bonds, &sums, skeleton.atoms())?;
     if let Some(refusal) = atom_refusal(alloc, &atoms, &bonds, &sums) {
         return Err(Stop::Refused(refusal));
+    }
+    if some_needs(skeleton.atoms(), &bonds, &sums) {
+        return Err(Stop::Refused(Refusal::at(alloc, Kind::NotBuilt, 1)));
     }
     let mol = molecule(alloc, atoms, bonds)?;
     Ok(mol)

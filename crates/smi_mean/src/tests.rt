@@ -1,8 +1,9 @@
 ghost use Rattle.std.specs.Prelude.{◌<◌, ◌-◌, ◌^◌, length};
 
-use crate::read_smiles;
+use crate::{is_placement, mean_of, needs, read_smiles};
 use mc_base::{AtomId, BondId, Kind, Stop};
 use mc_elements::Element;
+use smi_graph::read_skeleton;
 use std::process::Abort;
 use std::test::Fail;
 
@@ -84,4 +85,125 @@ fn fields_of_an_atom(rt: HostRuntime) -> Result<(), Fail> {
         Err(_) => assert!(rt; false),
     }
     Ok(())
+}
+
+#[test]
+fn lower_case_without_a_need(rt: HostRuntime) -> Result<(), Fail> {
+    // a bare lower-case atom leaves one valence for a double bond that it may have elsewhere
+    has_hydrogens(&rt, b"c1(=O)c(=O)c1=O", &[0; 6])?;
+    has_hydrogens(&rt, b"o1oo1", &[0; 3])?;
+    has_hydrogens(&rt, b"[nH]1[nH][nH]1", &[1; 3])?;
+    has_hydrogens(&rt, b"[cH2]1[cH2]s1", &[2, 2, 0])?;
+    has_hydrogens(&rt, b"[se]1[se][se]1", &[0; 3])?;
+    Ok(())
+}
+
+/// Which atoms of a text need a double bond.
+fn need(rt: &(impl Abort + AllocGlobal), text: &[u8], which: &[bool]) -> Result<(), Fail>
+    requires { length text.now < 2 ^ 32 - 1 }
+{
+    match read_skeleton(rt.alloc(), text) {
+        Ok(skeleton) => {
+            assert!(rt; skeleton.atom_count() as usize == which.len());
+            for a in 0..skeleton.atom_count() {
+                assert!(rt; needs(&skeleton, AtomId(a)) == which[a as usize]);
+            }
+        }
+        Err(_) => assert!(rt; false),
+    }
+    Ok(())
+}
+
+#[test]
+fn needs_of_atoms(rt: HostRuntime) -> Result<(), Fail> {
+    need(&rt, b"c1ccccc1", &[true; 6])?;
+    // pyridine, pyrrole, pyridinium, furan
+    need(&rt, b"n1ccccc1", &[true; 6])?;
+    need(&rt, b"[nH]1cccc1", &[false, true, true, true, true])?;
+    need(&rt, b"[nH+]1ccccc1", &[true; 6])?;
+    need(&rt, b"o1cccc1", &[false, true, true, true, true])?;
+    need(&rt, b"[o+]1ccccc1", &[true; 6])?;
+    need(&rt, b"[se]1cccc1", &[false, true, true, true, true])?;
+    // an atom in brackets has the hydrogens that it writes, and no others
+    need(&rt, b"[c]1ccccc1", &[false, true, true, true, true, true])?;
+    need(&rt, b"[cH]1ccccc1", &[true; 6])?;
+    // a double bond outside fills the need
+    need(&rt, b"c1(=O)cc1", &[false, false, true, true])?;
+    need(
+        &rt,
+        b"c12c3oc1oc2o3",
+        &[true, true, false, true, false, true, false],
+    )?;
+    need(&rt, b"CC=C", &[false; 3])
+}
+
+#[test]
+fn needs_that_are_not_placed_yet(rt: HostRuntime) -> Result<(), Fail> {
+    is_refused(&rt, b"c1ccccc1", Kind::NotBuilt, 1)?;
+    is_refused(&rt, b"cc", Kind::NotBuilt, 1)?;
+    // behind every other kind
+    is_refused(&rt, b"c1ccccc1C:C", Kind::AromaticBond, 8)?;
+    is_refused(&rt, b"c1ccccc1.[HH]", Kind::HydrogenOnHydrogen, 7)?;
+    is_refused(&rt, b"c1ccccc1C[CH9](=C)(=C)(C)C", Kind::LimitValence, 8)
+}
+
+/// The orders of the bonds of a text under these marks, and the hydrogens of each of its atoms; nothing where the marks
+/// are no placement.
+fn placed(
+    rt: &(impl Abort + AllocGlobal),
+    text: &[u8],
+    double: &[bool],
+    orders: &[u8],
+    hydrogens: u8,
+) -> Result<(), Fail>
+    requires { length text.now < 2 ^ 32 - 1 }
+{
+    match read_skeleton(rt.alloc(), text) {
+        Ok(skeleton) => {
+            if !is_placement(&skeleton, double) {
+                assert!(rt; orders.len() == 0);
+                return Ok(());
+            }
+            match mean_of(rt.alloc(), &skeleton, double) {
+                Ok(mol) => {
+                    assert!(rt; mol.bond_count() as usize == orders.len());
+                    for k in 0..mol.bond_count() {
+                        assert!(rt; mol.bond(BondId(k)).order == orders[k as usize]);
+                    }
+                    for a in 0..mol.atom_count() {
+                        assert!(rt; mol.atom(AtomId(a)).hydrogens == hydrogens);
+                    }
+                }
+                Err(_) => assert!(rt; false),
+            }
+        }
+        Err(_) => assert!(rt; false),
+    }
+    Ok(())
+}
+
+#[test]
+fn molecules_of_placements(rt: HostRuntime) -> Result<(), Fail> {
+    let (t, f) = (true, false);
+    placed(
+        &rt,
+        b"c1ccccc1",
+        &[t, f, t, f, t, f],
+        &[2, 1, 2, 1, 2, 1],
+        1,
+    )?;
+    placed(
+        &rt,
+        b"c1ccccc1",
+        &[f, t, f, t, f, t],
+        &[1, 2, 1, 2, 1, 2],
+        1,
+    )?;
+    // an atom left out, one that lies on two, a mark too few
+    placed(&rt, b"c1ccccc1", &[t, f, t, f, f, f], &[], 1)?;
+    placed(&rt, b"c1ccccc1", &[t, t, f, f, t, f], &[], 1)?;
+    placed(&rt, b"c1ccccc1", &[t, f, t, f, t], &[], 1)?;
+    // an atom without a need, and a bond that is no candidate
+    placed(&rt, b"o1cccc1", &[t, f, t, f, f], &[], 0)?;
+    placed(&rt, b"cc", &[t], &[], 2)
 }

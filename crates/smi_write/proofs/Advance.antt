@@ -3,7 +3,7 @@ use Rattle.std.proofs.Common.{◌≡◌, ℕ, suc, ◌+◌, ◌*◌, ◌-◌, �
 use Rattle.std.specs.Prelude.{◌≢◌, ◌==◌, ◌&&◌, ◌||◌, not, if◌then◌else◌}
 use Rattle.std.specs.Option.{option_to_list}
 use Rattle.std.specs.List.{All, list_any}
-use Rattle.std.proofs.lemmas.Bool.{cases_eq, false≢true}
+use Rattle.std.proofs.lemmas.Bool.{cases_eq, false≢true, ne_eqb, and_parts, or_parts, not-true, not-false, false_from_ne_true}
 use Rattle.std.proofs.lemmas.List.{append-nil, length_push, length-map, map-append, get_or-set_same, get_or-set_other}
 use Rattle.std.proofs.lemmas.Option.{slice_get-get_or}
 use Rattle.mc_base.specs.declared.ids.AtomId.{AtomId}
@@ -12,15 +12,14 @@ use Rattle.mc_mol.specs.Molecule.{Molecule, are_joined}
 use Rattle.mc_mol.specs.WellFormed.{IsMolecule}
 use Rattle.mc_mol.specs.HalfEdges.{half_edges, AllHaveTwins}
 use Rattle.mc_mol.proofs.Lists.{length-slice_set, reverse_push}
-use Rattle.mc_mol.proofs.Halves.{are_joined-half_edges}
-use Rattle.smi_mean.specs.Order.{Graph, graph_of, Step, least, some_if, is_written, unwritten_neighbour, behind, beginning, next_step, onto, steps, order, place, parent_place, parents, atoms}
+use Rattle.mc_mol.proofs.Halves.{are_joined-half_edges, same_test}
+use Rattle.smi_mean.specs.Order.{Graph, graph_of, Step, least, some_if, is_written, unwritten_neighbour, behind, beginning, next_step, onto, steps, order, rank, parent_rank, parents, atoms}
 use Rattle.smi_write.specs.Lesser.{lowest}
 use Rattle.smi_write.specs.declared.order.Seen.{Seen}
 use Rattle.smi_write.specs.Seen.{nothing, see_all, IsBondTo, Sees}
 use Rattle.smi_write.specs.WrittenOrder.{order_behind, parent_orders}
 use Rattle.smi_write.specs.Progress.{Stacked, HoldsSteps}
-use Rattle.smi_write.proofs.Least.{test_other, test_same, not_false, not_true, not_is, and_true, or_false}
-use Rattle.smi_write.proofs.Walk.{Grown, grown, chosen, place_here, place_other, place_more, written_place, unwritten_place, place_unwritten}
+use Rattle.smi_write.proofs.Walk.{Grown, grown, chosen, rank_here, rank_other, rank_more, written_rank, unwritten_rank, rank_unwritten}
 use Rattle.smi_write.proofs.Counting.{count_le, count_all}
 use Rattle.smi_write.proofs.Once.{count_written, length_atoms}
 use Rattle.smi_write.proofs.Stacked.{least_none, next_none, next_top, popped, popped_below, stays_stacked}
@@ -34,17 +33,17 @@ use Rattle.smi_write.proofs.BondOrders.{half_order}
 pub halves_within : (m : Molecule) (a : AtomId) → AllHaveTwins m a → All (λ half. half.to.0 < length m.atoms) (half_edges m a.0)
 halves_within m a twins = λ k d h. (twins k (get_or (half_edges m a.0) k d) (slice_get-get_or (half_edges m a.0) k d h)).to
 
-pub is_free : (before : List Step) (v : ℕ) → (place before v == 0) ≡ not (is_written before v)
+pub is_free : (before : List Step) (v : ℕ) → (rank before v == 0) ≡ not (is_written before v)
 is_free before v = by_test (is_written before v) refl
   where
-    by_test : (t : Bool) → is_written before v ≡ t → (place before v == 0) ≡ not t
-    by_test true e = test_other (place before v) 0 (λ z. let p = written_place before v e in omega arith)
-    by_test false e = ap (λ (x : ℕ). x == 0) (unwritten_place before v e)
+    by_test : (t : Bool) → is_written before v ≡ t → (rank before v == 0) ≡ not t
+    by_test true e = ne_eqb (rank before v) 0 (λ z. let p = written_rank before v e in omega arith)
+    by_test false e = ap (λ (x : ℕ). x == 0) (unwritten_rank before v e)
 
 pull_one : (f : ℕ → Bool) (to v : ℕ) (others : Bool) → ((f to && to == v) || (others && f v)) ≡ ((to == v || others) && f v)
 pull_one f to v others = elim (cases_eq to v) [
-  | inl same ↦ let t : (to == v) ≡ true = ap (λ (x : ℕ). x == v) same ∙ test_same v in let e : f to ≡ f v = ap f same in rw (t, e) (both (f v) others)
-  | inr ne ↦ rw (test_other to v ne) (neither (f to) others (f v))
+  | inl same ↦ let t : (to == v) ≡ true = ap (λ (x : ℕ). x == v) same ∙ same_test v in let e : f to ≡ f v = ap f same in rw (t, e) (both (f v) others)
+  | inr ne ↦ rw (ne_eqb to v ne) (neither (f to) others (f v))
 ]
   where
     both : (a b : Bool) → ((a && true) || (b && a)) ≡ ((true || b) && a)
@@ -62,21 +61,21 @@ pull f (half ∷ halves) v =
     ap (λ (b : Bool). (f half.to.0 && half.to.0 == v) || b) (pull f halves v) ∙ pull_one f half.to.0 v (list_any (λ half. half.to.0 == v) halves)
 
 -- what the pass over an atom's half-edges finds
-pub neighbour_is : (m : Molecule) (before : List Step) (place_list : List ℕ) (a : AtomId) → ((u : ℕ) → u < length m.atoms → get_or place_list u 0 ≡ place before u)
-    → AllHaveTwins m a → 0 < place before a.0
-    → lowest (λ half. get_or place_list half.to.0 0 == 0) (λ half. half.to.0) None (half_edges m a.0) ≡ unwritten_neighbour (graph_of m) before a.0
-neighbour_is m before place_list a places twins written =
-    lowest_is (λ half. get_or place_list half.to.0 0 == 0) (λ half. half.to.0) (length m.atoms) (half_edges m a.0) None (λ v h. absurd (false≢true h))
+pub neighbour_is : (m : Molecule) (before : List Step) (rank_list : List ℕ) (a : AtomId) → ((u : ℕ) → u < length m.atoms → get_or rank_list u 0 ≡ rank before u)
+    → AllHaveTwins m a → 0 < rank before a.0
+    → lowest (λ half. get_or rank_list half.to.0 0 == 0) (λ half. half.to.0) None (half_edges m a.0) ≡ unwritten_neighbour (graph_of m) before a.0
+neighbour_is m before rank_list a ranks twins written =
+    lowest_is (λ half. get_or rank_list half.to.0 0 == 0) (λ half. half.to.0) (length m.atoms) (half_edges m a.0) None (λ v h. absurd (false≢true h))
     (λ k d h p. halves_within m a twins k d h)
-    ∙ least_cong _ _ (length m.atoms) (λ v less. pull (λ v. get_or place_list v 0 == 0) (half_edges m a.0) v ∙ here v less)
+    ∙ least_cong _ _ (length m.atoms) (λ v less. pull (λ v. get_or rank_list v 0 == 0) (half_edges m a.0) v ∙ here v less)
   where
-    here : (v : ℕ) → v < length m.atoms → (list_any (λ half. half.to.0 == v) (half_edges m a.0) && (get_or place_list v 0 == 0)) ≡ (are_joined m.bonds a.0 v && not (is_written before v))
+    here : (v : ℕ) → v < length m.atoms → (list_any (λ half. half.to.0 == v) (half_edges m a.0) && (get_or rank_list v 0 == 0)) ≡ (are_joined m.bonds a.0 v && not (is_written before v))
     here v less = elim (cases_eq a.0 v) [
       | inl same ↦
-          let w : is_written before v ≡ true = not_false _ (sym (is_free before v) ∙ test_other (place before v) 0 (λ z. let e = ap (place before) same in omega arith)) in
-          let f : (get_or place_list v 0 == 0) ≡ false = ap (λ (x : ℕ). x == 0) (places v less) ∙ is_free before v ∙ ap not w in
+          let w : is_written before v ≡ true = not-false _ (sym (is_free before v) ∙ ne_eqb (rank before v) 0 (λ z. let e = ap (rank before) same in omega arith)) in
+          let f : (get_or rank_list v 0 == 0) ≡ false = ap (λ (x : ℕ). x == 0) (ranks v less) ∙ is_free before v ∙ ap not w in
           rw (f, w) (none (list_any (λ half. half.to.0 == v) (half_edges m a.0)) (are_joined m.bonds a.0 v))
-      | inr ne ↦ rw (are_joined-half_edges m a.0 v ne, places v less, is_free before v) refl
+      | inr ne ↦ rw (are_joined-half_edges m a.0 v ne, ranks v less, is_free before v) refl
     ]
       where
         none : (a b : Bool) → (a && false) ≡ (b && false)
@@ -86,31 +85,31 @@ neighbour_is m before place_list a places twins written =
         none false false = refl
 
 -- what is seen of an atom's neighbours
-pub seen : (m : Molecule) (before : List Step) (k p : ℕ) (place_list : List ℕ) (a : AtomId) → IsMolecule m → ((u : ℕ) → u < length m.atoms → get_or place_list u 0 ≡ place before u)
-    → AllHaveTwins m a → 0 < place before a.0 → Sees m before a.0 (see_all k p place_list nothing (half_edges m a.0))
-seen m before k p place_list a is places twins written =
-    let least : some_if found.some found.least ≡ unwritten_neighbour (graph_of m) before a.0 = least_is_lowest k p place_list (half_edges m a.0) nothing ∙ neighbour_is m before place_list a places twins written in
+pub seen : (m : Molecule) (before : List Step) (k p : ℕ) (rank_list : List ℕ) (a : AtomId) → IsMolecule m → ((u : ℕ) → u < length m.atoms → get_or rank_list u 0 ≡ rank before u)
+    → AllHaveTwins m a → 0 < rank before a.0 → Sees m before a.0 (see_all k p rank_list nothing (half_edges m a.0))
+seen m before k p rank_list a is ranks twins written =
+    let least : some_if found.some found.least ≡ unwritten_neighbour (graph_of m) before a.0 = least_is_lowest k p rank_list (half_edges m a.0) nothing ∙ neighbour_is m before rank_list a ranks twins written in
     record {
       none = λ e. sym least ∙ ap (λ (b : Bool). some_if b found.least) e;
       least = λ e. sym least ∙ ap (λ (b : Bool). some_if b found.least) e;
-      only = λ e f. least_none _ (length m.atoms) (λ w less. not_true (are_joined m.bonds a.0 w && not (found.least == w || is_written before w)) (λ h. spent f w less h));
-      bond = λ e. true_of_found (λ v b. IsBondTo m a.0 v b.0) k p place_list (half_edges m a.0) nothing bond_to (λ h. absurd (false≢true h)) e;
+      only = λ e f. least_none _ (length m.atoms) (λ w less. false_from_ne_true (are_joined m.bonds a.0 w && not (found.least == w || is_written before w)) (λ h. spent f w less h));
+      bond = λ e. true_of_found (λ v b. IsBondTo m a.0 v b.0) k p rank_list (half_edges m a.0) nothing bond_to (λ h. absurd (false≢true h)) e;
     }
   where
     found : Seen
-    found = see_all k p place_list nothing (half_edges m a.0)
+    found = see_all k p rank_list nothing (half_edges m a.0)
 
     bond_to : (i : ℕ) (half : HalfEdge) → slice_get (half_edges m a.0) i ≡ Some half → IsBondTo m a.0 half.to.0 half.bond.0
     bond_to i half at = let t = twins i half at in record { bond = t.bond; is_bond = t.is_bond; order = half_order m a i half.to.0 half t.bond is twins at refl t.is_bond }
 
     spent : found.more ≡ false → (w : ℕ) → w < length m.atoms → (are_joined m.bonds a.0 w && not (found.least == w || is_written before w)) ≡ true → ⊥
     spent f w less h =
-        let both = and_true (are_joined m.bonds a.0 w) (not (found.least == w || is_written before w)) h in
-        let neither = or_false (found.least == w) (is_written before w) (not_is (found.least == w || is_written before w) both.1) in
-        let free : (get_or place_list w 0 == 0) ≡ true = ap (λ (x : ℕ). x == 0) (places w less) ∙ is_free before w ∙ ap not neither.1 in
-        let ne : a.0 ≢ w = λ e. let z = unwritten_place before w neither.1 in let q : place before a.0 ≡ place before w = ap (place before) e in omega arith in
-        let same = only_one k p place_list (half_edges m a.0) nothing refl f w (are_joined-half_edges m a.0 w ne ∙ both.0) free in
-        false≢true (sym neither.0 ∙ ap (λ (x : ℕ). x == w) same ∙ test_same w)
+        let both = and_parts (are_joined m.bonds a.0 w) (not (found.least == w || is_written before w)) h in
+        let neither = or_parts (found.least == w) (is_written before w) (not-true (found.least == w || is_written before w) both.1) in
+        let free : (get_or rank_list w 0 == 0) ≡ true = ap (λ (x : ℕ). x == 0) (ranks w less) ∙ is_free before w ∙ ap not neither.1 in
+        let ne : a.0 ≢ w = λ e. let z = unwritten_rank before w neither.1 in let q : rank before a.0 ≡ rank before w = ap (rank before) e in omega arith in
+        let same = only_one k p rank_list (half_edges m a.0) nothing refl f w (are_joined-half_edges m a.0 w ne ∙ both.0) free in
+        false≢true (sym neither.0 ∙ ap (λ (x : ℕ). x == w) same ∙ same_test w)
 
 -- One more step
 
@@ -118,7 +117,7 @@ pub length_list : (g : Graph) (before : List Step) (al : List AtomId) (pl cl st 
 length_list g before al pl cl st h = ap length h.atoms_are ∙ length-map (atoms before) (λ u. record { 0 = u }) ∙ length_atoms before
 
 pub behind_more : (g : Graph) (before : List Step) (s : Step) (al al' : List AtomId) (pl pl' cl cl' st st' : List ℕ) (p n : ℕ)
-    → HoldsSteps g before al pl cl st → s.atom < g.count → p ≡ parent_place before s.parent → n ≡ suc (length before)
+    → HoldsSteps g before al pl cl st → s.atom < g.count → p ≡ parent_rank before s.parent → n ≡ suc (length before)
     → al' ≡ al ++ record { 0 = s.atom } ∷ [] → pl' ≡ pl ++ p ∷ [] → cl' ≡ slice_set cl s.atom n → st' ≡ st ++ s.atom ∷ []
     → HoldsSteps g (s ∷ before) al' pl' cl' st'
 behind_more g before s al al' pl pl' cl cl' st st' p n h below is_p is_n e f c t =
@@ -127,12 +126,12 @@ behind_more g before s al al' pl pl' cl cl' st st' p n h below is_p is_n e f c t
       atoms_are = e ∙ ap (λ (x : List AtomId). x ++ record { 0 = s.atom } ∷ []) h.atoms_are ∙ sym (map-append (λ u. record { 0 = u }) (atoms before) (s.atom ∷ []));
       parents_are = f ∙ ap (λ (x : List ℕ). x ++ p ∷ []) h.parents_are ∙ ap (λ (x : ℕ). parents before ++ x ∷ []) is_p;
       count = ap length c ∙ length-slice_set cl s.atom n ∙ h.count;
-      places_are = λ u less. ap (λ (x : List ℕ). get_or x u 0) c ∙ elim (cases_eq s.atom u) [
+      ranks_are = λ u less. ap (λ (x : List ℕ). get_or x u 0) c ∙ elim (cases_eq s.atom u) [
         | inl same ↦
             let len = h.count in
             let at = get_or-set_same cl s.atom n 0 (omega arith) in
-            ap (λ (x : ℕ). get_or (slice_set cl s.atom n) x 0) (sym same) ∙ at ∙ is_n ∙ sym (place_here s before u same)
-        | inr ne ↦ get_or-set_other cl s.atom u n 0 (λ x. ne (sym x)) ∙ h.places_are u less ∙ sym (place_other s before u ne)
+            ap (λ (x : ℕ). get_or (slice_set cl s.atom n) x 0) (sym same) ∙ at ∙ is_n ∙ sym (rank_here s before u same)
+        | inr ne ↦ get_or-set_other cl s.atom u n 0 (λ x. ne (sym x)) ∙ h.ranks_are u less ∙ sym (rank_other s before u ne)
       ];
       stacked = inr (reverse st, ap reverse t ∙ reverse_push st s.atom, stays_stacked g before before s (reverse st) h.stacked);
     }
@@ -148,7 +147,7 @@ longer_steps m s al al' e next =
 
 pub walk_on : (m : Molecule) (s : Step) (al al' : List AtomId) (pl pl' cl cl' st st' : List ℕ) (p n : ℕ)
     → HoldsSteps (graph_of m) (steps (graph_of m) (length al)) al pl cl st
-    → next_step (graph_of m) (steps (graph_of m) (length al)) ≡ Some s → p ≡ parent_place (steps (graph_of m) (length al)) s.parent → n ≡ length al + 1
+    → next_step (graph_of m) (steps (graph_of m) (length al)) ≡ Some s → p ≡ parent_rank (steps (graph_of m) (length al)) s.parent → n ≡ length al + 1
     → al' ≡ al ++ record { 0 = s.atom } ∷ [] → pl' ≡ pl ++ p ∷ [] → cl' ≡ slice_set cl s.atom n → st' ≡ st ++ s.atom ∷ []
     → HoldsSteps (graph_of m) (steps (graph_of m) (length al')) al' pl' cl' st'
 walk_on m s al al' pl pl' cl cl' st st' p n h next is_p is_n e f c t =
@@ -169,29 +168,29 @@ pub few_steps : (g : Graph) (k : ℕ) → length (steps g k) ≤ g.count
 few_steps g k = let c = count_written g (steps g k) (grown g k) in let le = count_le (is_written (steps g k)) g.count in omega arith
 
 -- the atoms of the stack are written
-pub top_written : (g : Graph) (written others : List Step) (u : ℕ) (us : List ℕ) → Stacked g written others (u ∷ us) → 0 < place others u
+pub top_written : (g : Graph) (written others : List Step) (u : ℕ) (us : List ℕ) → Stacked g written others (u ∷ us) → 0 < rank others u
 top_written g written [] u us h = cc
-top_written g written (s ∷ others) u us (inl h) = let r = top_written g written others u us h.1 in let m = place_more s others u in omega arith
+top_written g written (s ∷ others) u us (inl h) = let r = top_written g written others u us h.1 in let m = rank_more s others u in omega arith
 top_written g written (s ∷ others) u us (inr (vs, e, h)) =
-    let same : u ≡ s.atom = cc in let p = place_here s others u (sym same) in omega arith
+    let same : u ≡ s.atom = cc in let p = rank_here s others u (sym same) in omega arith
 
-pub written_below : (g : Graph) (before : List Step) (u : ℕ) → Grown g before → 0 < place before u → u < g.count
+pub written_below : (g : Graph) (before : List Step) (u : ℕ) → Grown g before → 0 < rank before u → u < g.count
 written_below g [] u h w = absurd (omega arith)
 written_below g (s ∷ before) u h w = elim (cases_eq s.atom u) [
   | inl same ↦ subst (λ (x : ℕ). x < g.count) same h.1.below
-  | inr ne ↦ let o = place_other s before u ne in written_below g before u h.0 (omega arith)
+  | inr ne ↦ let o = rank_other s before u ne in written_below g before u h.0 (omega arith)
 ]
 
 -- A new part
 
-pub next_root : (m : Molecule) (before : List Step) (root : ℕ) → Stacked (graph_of m) before before [] → root < length m.atoms → place before root ≡ 0
-    → ((v : ℕ) → v < root → 0 < place before v) → next_step (graph_of m) before ≡ Some (beginning root)
+pub next_root : (m : Molecule) (before : List Step) (root : ℕ) → Stacked (graph_of m) before before [] → root < length m.atoms → rank before root ≡ 0
+    → ((v : ℕ) → v < root → 0 < rank before v) → next_step (graph_of m) before ≡ Some (beginning root)
 next_root m before root empty below fresh first =
     let none = next_none (graph_of m) before before empty in
-    let free : not (is_written before root) ≡ true = ap not (place_unwritten before root fresh) in
+    let free : not (is_written before root) ≡ true = ap not (rank_unwritten before root fresh) in
     let found : least (λ v. not (is_written before v)) (length m.atoms) ≡ Some root =
     least_is (λ v. not (is_written before v)) (length m.atoms) root below free
-    (λ v less. sym (is_free before v) ∙ test_other (place before v) 0 (λ z. let f = first v less in omega arith)) in
+    (λ v less. sym (is_free before v) ∙ ne_eqb (rank before v) 0 (λ z. let f = first v less in omega arith)) in
     rw (none, found) refl
 
 pub next_neighbour : (g : Graph) (before : List Step) (u v : ℕ) (us : List ℕ) → Stacked g before before (u ∷ us) → unwritten_neighbour g before u ≡ Some v
@@ -199,16 +198,16 @@ pub next_neighbour : (g : Graph) (before : List Step) (u v : ℕ) (us : List ℕ
 next_neighbour g before u v us h found = rw (next_top g before before u v us h found) refl
 
 -- where all atoms are written, there are as many steps as atoms
-pub all_steps : (g : Graph) (k : ℕ) → ((v : ℕ) → v < g.count → 0 < place (steps g k) v) → length (steps g k) ≡ g.count
+pub all_steps : (g : Graph) (k : ℕ) → ((v : ℕ) → v < g.count → 0 < rank (steps g k) v) → length (steps g k) ≡ g.count
 all_steps g k all =
     sym (count_written g (steps g k) (grown g k))
-    ∙ count_all (is_written (steps g k)) g.count (λ v less. not_false _ (sym (is_free (steps g k) v) ∙ test_other (place (steps g k) v) 0 (λ z. let f = all v less in omega arith)))
+    ∙ count_all (is_written (steps g k)) g.count (λ v less. not-false _ (sym (is_free (steps g k) v) ∙ ne_eqb (rank (steps g k) v) 0 (λ z. let f = all v less in omega arith)))
 
 -- What the walk's functions want
 
 -- the latest atom of the stack is a written one
 pub record IsTop (m : Molecule) (before : List Step) (u : ℕ) : Type 0 where
-  pub written : 0 < place before u
+  pub written : 0 < rank before u
   pub below : u < length m.atoms
 
 pub top_is : (m : Molecule) (k : ℕ) (al : List AtomId) (pl cl st : List ℕ) (u : ℕ) → HoldsSteps (graph_of m) (steps (graph_of m) k) al pl cl (st ++ u ∷ []) → IsTop m (steps (graph_of m) k) u
@@ -226,7 +225,7 @@ stays_off m before al pl cl st st' u next h none e =
       atoms_are = h.atoms_are;
       parents_are = h.parents_are;
       count = h.count;
-      places_are = h.places_are;
+      ranks_are = h.ranks_are;
       stacked = subst (λ (x : List ℕ). Stacked (graph_of m) before before (reverse x)) e (popped (graph_of m) before before u (reverse st) s none);
     }
 
@@ -240,7 +239,7 @@ goes_below g before al pl cl st u v h none =
       atoms_are = h.atoms_are;
       parents_are = h.parents_are;
       count = h.count;
-      places_are = h.places_are;
+      ranks_are = h.ranks_are;
       stacked = subst (λ (x : List ℕ). Stacked g before before x) (sym (reverse_push st v)) (popped_below g before before v u (reverse st) s none);
     }
 
@@ -289,7 +288,7 @@ gone_on m al al' pl pl' cl cl' st st' u v p more h found only is_p e f c t =
     let next = next_above m (steps (graph_of m) (length al)) al pl cl st u v h (sym found) in
     let top = top_is m (length al) al pl cl st u h in
     kept_below (graph_of m) (steps (graph_of m) (length al')) al' pl' cl' st st' u v more
-    (walk_on m (behind u v) al al' pl pl' cl cl' (st ++ u ∷ []) ((st ++ u ∷ []) ++ v ∷ []) p (length al + 1) h next (is_p ∙ h.places_are u top.below) refl e f c refl)
+    (walk_on m (behind u v) al al' pl pl' cl cl' (st ++ u ∷ []) ((st ++ u ∷ []) ++ v ∷ []) p (length al + 1) h next (is_p ∙ h.ranks_are u top.below) refl e f c refl)
     (λ none. ap (λ (x : List Step). unwritten_neighbour (graph_of m) x u) (longer_steps m (behind u v) al al' e next) ∙ only none) t
 
 -- the orders of the bonds to the parents
@@ -321,7 +320,7 @@ root_next m al pl cl st root h empty below free earlier =
     let before = steps (graph_of m) (length al) in
     let none : reverse (st ++ []) ≡ [] = ap (λ (x : List ℕ). reverse (x ++ [])) empty in
     let s : Stacked (graph_of m) before before [] = subst (λ (x : List ℕ). Stacked (graph_of m) before before x) none h.stacked in
-    next_root m before root s below (sym (h.places_are root below) ∙ free) (λ v less. subst (λ (x : ℕ). 0 < x) (h.places_are v (omega arith)) (earlier v less))
+    next_root m before root s below (sym (h.ranks_are root below) ∙ free) (λ v less. subst (λ (x : ℕ). 0 < x) (h.ranks_are v (omega arith)) (earlier v less))
 
 pub root_written : (m : Molecule) (al al' : List AtomId) (pl pl' cl cl' st st' : List ℕ) (root : ℕ)
     → HoldsSteps (graph_of m) (steps (graph_of m) (length al)) al pl cl (st ++ []) → st ≡ [] → root < length m.atoms → get_or cl root 0 ≡ 0
@@ -342,7 +341,7 @@ pub whole : (m : Molecule) (al : List AtomId) (pl cl st : List ℕ) → HoldsSte
     → ((v : ℕ) → v < length m.atoms → 0 < get_or cl v 0) → length al ≡ length m.atoms
 whole m al pl cl st h all =
     length_list (graph_of m) (steps (graph_of m) (length al)) al pl cl st h
-    ∙ all_steps (graph_of m) (length al) (λ v less. subst (λ (x : ℕ). 0 < x) (h.places_are v less) (all v less))
+    ∙ all_steps (graph_of m) (length al) (λ v less. subst (λ (x : ℕ). 0 < x) (h.ranks_are v less) (all v less))
 
 pub order_whole : (m : Molecule) (al : List AtomId) → length al ≡ length m.atoms → steps (graph_of m) (length al) ≡ order (graph_of m)
 order_whole m al e = ap (steps (graph_of m)) e

@@ -1,27 +1,17 @@
 -- A test of each place of a text, along its tokens.
-use Rattle.std.proofs.Common.{◌≡◌, ◌∙◌, ℕ, zero, suc, ◌+◌, ◌≤◌, ◌<◌, List, [], ◌∷◌, length, get_or, take, reverse, Bool, false, Option, Some, None, refl, ap, sym, subst, inl, inr, arith}
+use Rattle.std.proofs.Common.{◌≡◌, ◌∙◌, ℕ, zero, suc, ◌+◌, ◌≤◌, List, [], ◌∷◌, length, reverse, Bool, false, Option, Some, None, ap, sym, subst, inl, inr, arith}
 use Rattle.std.specs.Prelude.{slice_get}
 use Rattle.std.proofs.lemmas.Bool.{cases_lt}
-use Rattle.std.proofs.lemmas.List.{take_more, reverse-append, take_all}
 use Rattle.std.proofs.lemmas.Option.{slice_get-get_or}
 use Rattle.smi_graph.specs.declared.role.Role.{Role}
 use Rattle.smi_graph.specs.declared.role.Role.TheVariants.{Atom}
 use Rattle.smi_graph.specs.Order.{tokens_before}
+use Rattle.smi_graph.proofs.Prefixes.{tokens_before_more, slice_get_end, all_before}
 
 -- no token fails the test behind those before it
 abbrev pub Along : (List Role → Option Role → Bool) → List Role → Type 0
 Along test [] = Unit {0}
 Along test (k ∷ before) = Along test before × (test before (Some k) ≡ false)
-
-pub tokens_before_more : (ks : List Role) (i : ℕ) (d : Role) → i < length ks → tokens_before ks (i + 1) ≡ get_or ks i d ∷ tokens_before ks i
-tokens_before_more ks i d within = ap reverse (take_more ks i d within) ∙ reverse-append (take i ks) (get_or ks i d ∷ [])
-
-pub slice_get_end : (ks : List Role) → slice_get ks (length ks) ≡ None
-slice_get_end [] = refl
-slice_get_end (k ∷ ks) = slice_get_end ks
-
-all_before : (ks : List Role) → tokens_before ks (length ks) ≡ reverse ks
-all_before ks = ap reverse (take_all (length ks) ks (omega arith))
 
 -- from the end back to a place; `left` places lie behind it
 front : (test : List Role → Option Role → Bool) (ks : List Role) (i left : ℕ) → i + left ≡ length ks → Along test (reverse ks) → Along test (tokens_before ks i)

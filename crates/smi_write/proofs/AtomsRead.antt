@@ -1,7 +1,7 @@
 -- The atoms of a text, by the kinds of its tokens.
 use Rattle.std.proofs.Common.{arith, ◌≡◌, ◌<◌, ◌+◌, ◌==◌, ℕ, zero, suc, Bool, true, false, List, [], ◌∷◌, ◌++◌, length, get_or, map, Some, refl, sym, ap, ◌∙◌, inl, inr}
 use Rattle.std.specs.Prelude.{slice_get, ℤ, pos, negsuc, nat_abs}
-use Rattle.std.proofs.lemmas.Bool.{cases_Bool, and_parts}
+use Rattle.std.proofs.lemmas.Bool.{cases_Bool, and_parts, eqb-true}
 use Rattle.mc_base.specs.declared.span.Span.{Span}
 use Rattle.mc_elements.specs.declared.element.Element.{Element}
 use Rattle.mc_elements.specs.declared.element.Element.TheVariants.{C}
@@ -22,7 +22,6 @@ use Rattle.smi_lex.specs.declared.token.BondMark.{BondMark}
 use Rattle.smi_mean.specs.RingNumbers.{opening}
 use Rattle.smi_mean.specs.Written.{before_atom, is_bare, ring_tokens, text_from, token_of}
 use Rattle.smi_write.proofs.EachToken.{Each, HoldsBetween, any_numbers, any_symbols, each_before, each_ring}
-use Rattle.smi_write.proofs.TokenSpelled.{same_number}
 
 -- ---- the atoms of tokens
 
@@ -167,10 +166,10 @@ bare_is atom sum bare =
     let charge = and_parts (nat_abs atom.charge == 0) _ isotope.1 in
     let class = and_parts (atom.class == 0) _ charge.1 in
     record {
-      isotope = same_number atom.isotope 0 isotope.0;
-      charge = no_charge atom.charge (same_number (nat_abs atom.charge) 0 charge.0);
-      class = same_number atom.class 0 class.0;
-      hydrogens = same_number atom.hydrogens (implied (smiles_valences atom.element) sum) class.1;
+      isotope = eqb-true atom.isotope 0 isotope.0;
+      charge = no_charge atom.charge (eqb-true (nat_abs atom.charge) 0 charge.0);
+      class = eqb-true atom.class 0 class.0;
+      hydrogens = eqb-true atom.hydrogens (implied (smiles_valences atom.element) sum) class.1;
     }
 
 abbrev made : Element → ℕ → ℤ → ℕ → ℕ → Atom

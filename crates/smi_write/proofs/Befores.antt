@@ -6,16 +6,16 @@ use Rattle.std.proofs.lemmas.Bool.{cases_lt}
 use Rattle.std.proofs.lemmas.List.{take_all, get_or_default, get_or_push, get_or_append_left, length_push}
 use Rattle.mc_mol.specs.Molecule.{Molecule}
 use Rattle.smi_lex.specs.declared.token.TokenKind.TheVariants.{Enter, Leave}
-use Rattle.smi_mean.specs.Order.{Graph, graph_of, Step, order, order_between, place, parent_place, parents, atoms}
+use Rattle.smi_mean.specs.Order.{Graph, graph_of, Step, order, order_between, rank, parent_rank, parents, atoms}
 use Rattle.smi_mean.specs.RingNumbers.{has}
 use Rattle.smi_mean.specs.Written.{at, bond_symbol, before_atom, if_not, mark_tokens, symbol_of}
 use Rattle.smi_write.specs.declared.order.WrittenAtoms.{WrittenAtoms}
 use Rattle.smi_write.specs.WrittenOrder.{IsWrittenOrder, LastChildren, order_behind, parent_orders}
-use Rattle.smi_write.proofs.Walk.{Grown, grown, nested, order_nested, place_le, length_parents}
-use Rattle.smi_write.proofs.Once.{length_atoms, at_place}
+use Rattle.smi_write.proofs.Walk.{Grown, grown, nested, order_nested, rank_le, length_parents}
+use Rattle.smi_write.proofs.Once.{length_atoms, at_rank}
 use Rattle.smi_write.proofs.Partners.{length_order, length_parent_list}
 
--- the parent at a place, and the atoms of the bond to it
+-- the parent at a rank, and the atoms of the bond to it
 pub record HasParent (m : Molecule) (w : WrittenAtoms) (k p : ℕ) : Type 0 where
   pub is : p ≡ get_or w.parents.items k 0
   pub low : p ≤ k
@@ -33,7 +33,7 @@ length_orders : (g : Graph) (before : List Step) → length (parent_orders g bef
 length_orders g [] = refl
 length_orders g (s ∷ before) = length_push (parent_orders g before) (order_behind g s.parent s.atom) ∙ let e = length_orders g before in omega arith
 
--- the order of the bond to a parent, by the atoms at the two places
+-- the order of the bond to a parent, by the atoms at the two ranks
 order_at : (g : Graph) (before : List Step) (j l : ℕ) → Grown g before → l < length before → get_or (parents before) l 0 ≡ suc j
     → get_or (parent_orders g before) l 0 ≡ g.order (get_or (atoms before) j 0) (get_or (atoms before) l 0)
 order_at g [] j l h less e = absurd (omega arith)
@@ -43,32 +43,32 @@ order_at g (s ∷ before) j l h less e =
     let leno = length_orders g before in
     elim (cases_lt l (length before)) [
       | inl lt ↦
-          let frontp = get_or_append_left (parents before) (parent_place before s.parent ∷ []) 0 l (omega arith) in
+          let frontp = get_or_append_left (parents before) (parent_rank before s.parent ∷ []) 0 l (omega arith) in
           let early = (nested g before h.0).earlier l (omega arith) in
           let frontj = get_or_append_left (atoms before) (s.atom ∷ []) 0 j (omega arith) in
           let frontl = get_or_append_left (atoms before) (s.atom ∷ []) 0 l (omega arith) in
           get_or_append_left (parent_orders g before) (order_behind g s.parent s.atom ∷ []) 0 l (omega arith) ∙ order_at g before j l h.0 lt (sym frontp ∙ e)
           ∙ ap (λ (x : ℕ). g.order x (get_or (atoms before) l 0)) (sym frontj) ∙ ap (g.order (get_or (atoms before ++ s.atom ∷ []) j 0)) (sym frontl)
       | inr ge ↦
-          let lastp = get_or_push (parents before) (parent_place before s.parent) 0 l (omega arith) in
+          let lastp = get_or_push (parents before) (parent_rank before s.parent) 0 l (omega arith) in
           let lastl = get_or_push (atoms before) s.atom 0 l (omega arith) in
           let lasto = get_or_push (parent_orders g before) (order_behind g s.parent s.atom) 0 l (omega arith) in
           elim h.1.parent [
-            | inl none ↦ let z : parent_place before s.parent ≡ 0 = ap (parent_place before) none in absurd (omega arith)
+            | inl none ↦ let z : parent_rank before s.parent ≡ 0 = ap (parent_rank before) none in absurd (omega arith)
             | inr some ↦
                 let (p, r) = some in
-                let z : place before p ≡ suc j = sym (ap (parent_place before) r.is) ∙ sym lastp ∙ e in
-                let le = place_le before p in
+                let z : rank before p ≡ suc j = sym (ap (parent_rank before) r.is) ∙ sym lastp ∙ e in
+                let le = rank_le before p in
                 let frontj = get_or_append_left (atoms before) (s.atom ∷ []) 0 j (omega arith) in
                 lasto ∙ ap (λ (o : Option ℕ). order_behind g o s.atom) r.is
-                ∙ ap (λ (x : ℕ). g.order x s.atom) (sym (frontj ∙ at_place before p j z)) ∙ ap (g.order (get_or (atoms before ++ s.atom ∷ []) j 0)) (sym lastl)
+                ∙ ap (λ (x : ℕ). g.order x s.atom) (sym (frontj ∙ at_rank before p j z)) ∙ ap (g.order (get_or (atoms before ++ s.atom ∷ []) j 0)) (sym lastl)
           ]
     ]
 
 pub length_order_list : (m : Molecule) (w : WrittenAtoms) → IsWrittenOrder m w → length w.orders.items ≡ length m.atoms
 length_order_list m w h = ap length h.orders_are ∙ length_orders (graph_of m) (order (graph_of m)) ∙ length_order (graph_of m)
 
--- the order that is kept of the bond to the parent at a place
+-- the order that is kept of the bond to the parent at a rank
 pub order_kept : (m : Molecule) (w : WrittenAtoms) (k p o : ℕ) → IsWrittenOrder m w → k < length m.atoms → HasParent m w k p → p ≢ 0 → o ≡ get_or w.orders.items k o
     → o ≡ order_between m.bonds (at (graph_of m) (p - 1)) (at (graph_of m) k)
 order_kept m w k zero o h less parent some e = absurd (some refl)

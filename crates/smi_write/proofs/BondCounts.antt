@@ -1,16 +1,16 @@
 -- Each bond is read exactly once.
 use Rattle.std.proofs.Common.{◌≡◌, ◌≢◌, ℕ, zero, suc, ◌+◌, ◌≤◌, ◌<◌, List, [], ◌∷◌, ◌++◌, length, get_or, map, Option, Bool, true, false, refl, ap, sym, ◌∙◌, subst, inl, inr, arith}
 use Rattle.std.specs.Prelude.{◌==◌, ◌&&◌}
-use Rattle.std.proofs.lemmas.Bool.{cases_eq}
+use Rattle.std.proofs.lemmas.Bool.{cases_eq, and_right, ne_eqb}
 use Rattle.std.proofs.lemmas.List.{map-append}
 use Rattle.mc_mol.specs.declared.parts.Bond.{Bond}
+use Rattle.mc_mol.proofs.Halves.{same_test}
 use Rattle.smi_lex.specs.declared.token.BondMark.{BondMark}
 use Rattle.smi_graph.specs.declared.text_bond.TextBond.{TextBond}
 use Rattle.smi_graph.specs.Links.{bond_of}
 use Rattle.smi_mean.specs.RingNumbers.{Pair, closing}
 use Rattle.smi_write.proofs.RoleText.{links, parent_bond, bonds_from}
-use Rattle.smi_write.proofs.Least.{test_other, test_same}
-use Rattle.smi_write.proofs.Hits.{bit, opener_count, and_other}
+use Rattle.smi_write.proofs.Hits.{bit, opener_count}
 
 abbrev pub hit : ℕ → ℕ → Bond → ℕ
 hit j l b = bit (b.first.0 == j && b.second.0 == l)
@@ -37,22 +37,22 @@ and_last false b h = refl
 
 links_here : (j k : ℕ) (ps : List Pair) → text_count j k (links k ps) ≡ opener_count j ps
 links_here j k [] = refl
-links_here j k (p ∷ ps) = rw (and_last (p.opener == j) (k == k) (test_same k)) (ap (λ (x : ℕ). bit (p.opener == j) + x) (links_here j k ps))
+links_here j k (p ∷ ps) = rw (and_last (p.opener == j) (k == k) (same_test k)) (ap (λ (x : ℕ). bit (p.opener == j) + x) (links_here j k ps))
 
 links_other : (j l k : ℕ) (ps : List Pair) → k ≢ l → text_count j l (links k ps) ≡ 0
 links_other j l k [] ne = refl
-links_other j l k (p ∷ ps) ne = rw (and_other (p.opener == j) (k == l) (test_other k l ne)) (let h = links_other j l k ps ne in omega arith)
+links_other j l k (p ∷ ps) ne = rw (and_right (p.opener == j) (k == l) (ne_eqb k l ne)) (let h = links_other j l k ps ne in omega arith)
 
 parent_other : (v : ℕ → ℕ → Option BondMark) (j l p k : ℕ) → k ≢ l → text_count j l (parent_bond v p k) ≡ 0
 parent_other v j l zero k ne = refl
-parent_other v j l (suc p) k ne = rw (and_other (p == j) (k == l) (test_other k l ne)) refl
+parent_other v j l (suc p) k ne = rw (and_right (p == j) (k == l) (ne_eqb k l ne)) refl
 
 pub parent_here : (v : ℕ → ℕ → Option BondMark) (j p k : ℕ) → text_count j k (parent_bond v p k) ≡ bit (p == suc j)
-parent_here v j zero k = ap bit (sym (test_other 0 (suc j) (omega arith)))
-parent_here v j (suc p) k = rw (and_last (p == j) (k == k) (test_same k)) (omega arith ∙ ap bit (same_suc p j))
+parent_here v j zero k = ap bit (sym (ne_eqb 0 (suc j) (omega arith)))
+parent_here v j (suc p) k = rw (and_last (p == j) (k == k) (same_test k)) (omega arith ∙ ap bit (same_suc p j))
   where
     same_suc : (p j : ℕ) → (p == j) ≡ (suc p == suc j)
-    same_suc p j = elim (cases_eq p j) [ inl e ↦ ap (λ (x : ℕ). x == j) e ∙ test_same j ∙ sym (ap (λ (x : ℕ). suc x == suc j) e ∙ test_same (suc j)) | inr ne ↦ test_other p j ne ∙ sym (test_other (suc p) (suc j) (omega arith)) ]
+    same_suc p j = elim (cases_eq p j) [ inl e ↦ ap (λ (x : ℕ). x == j) e ∙ same_test j ∙ sym (ap (λ (x : ℕ). suc x == suc j) e ∙ same_test (suc j)) | inr ne ↦ ne_eqb p j ne ∙ sym (ne_eqb (suc p) (suc j) (omega arith)) ]
 
 piece_count : (v : ℕ → ℕ → Option BondMark) (r : ℕ → ℕ → Bool) (n j l k p : ℕ) (qs : List ℕ) → text_count j l (bonds_from v r n k (p ∷ qs)) ≡ text_count j l (parent_bond v p k) + (text_count j l (links k (closing v r n k)) + text_count j l (bonds_from v r n (suc k) qs))
 piece_count v r n j l k p qs =

@@ -1,10 +1,10 @@
--- Each atom has the same sum of orders as the atom that is read at its place.
+-- Each atom has the same sum of orders as the atom that is read at its rank.
 use Rattle.std.specs.Prelude.{Some}
 use Rattle.std.specs.Prelude.{None}
 use Rattle.std.specs.Prelude.{Option}
 use Rattle.std.proofs.Common.{length, ◌≡◌, ℕ, ◌+◌, ◌<◌, List, [], ◌∷◌, Bool, true, false, refl, ap, sym, ◌∙◌, arith}
 use Rattle.std.specs.Prelude.{◌==◌, ◌||◌, nat_lt, if◌then◌else◌}
-use Rattle.std.proofs.lemmas.Bool.{false≢true}
+use Rattle.std.proofs.lemmas.Bool.{false≢true, or_parts, false_from_ne_true}
 use Rattle.std.proofs.lemmas.List.Sums.{sum_by-cons}
 use Rattle.smi_mean.specs.Order.{Graph, order_between, graph_of}
 use Rattle.mc_mol.specs.declared.parts.Bond.{Bond}
@@ -13,16 +13,18 @@ use Rattle.smi_graph.specs.Bonds.{text_bonds}
 use Rattle.smi_graph.specs.declared.text_bond.TextBond.{TextBond}
 use Rattle.smi_lex.specs.declared.token.BondMark.{BondMark}
 use Rattle.std.specs.Prelude.{map}
+use Rattle.std.proofs.Math.Bool.{or_comm}
 use Rattle.smi_mean.specs.RingNumbers.{onto_all}
 use Rattle.mc_mol.specs.Molecule.{Molecule, joins, are_joined, touches, bond_sum}
 use Rattle.mc_mol.specs.WellFormed.{IsMolecule}
+use Rattle.mc_mol.proofs.Twins.{joins_first}
+use Rattle.mc_mol.proofs.Apart.{joins_turned}
 use Rattle.smi_mean.specs.Written.{at, bond_symbol}
 use Rattle.smi_write.specs.Structure.{SayOrders}
 use Rattle.smi_write.proofs.Symbols.{HasSymbols}
-use Rattle.smi_write.proofs.Simple.{Simple, simple_of, said_between, or_comm, joins_swap, joins_each}
-use Rattle.smi_write.proofs.Least.{test_same, or_false, not_true}
+use Rattle.smi_write.proofs.Simple.{Simple, simple_of, said_between, joins_each}
 use Rattle.smi_write.proofs.Sums.{bonds_sum}
-use Rattle.smi_write.proofs.Placed.{Inverse, inverse, equal_tests, turn, placed, place_of, read_sum}
+use Rattle.smi_write.proofs.Ranked.{Inverse, inverse, equal_tests, turn, ranked, rank_of, read_sum}
 use Rattle.smi_write.proofs.Whole.{graph_roles, is_read}
 
 -- each bond of these has in the whole list its order, from both ends
@@ -33,19 +35,16 @@ Fits all (b ∷ bs) = ((order_between all b.first.0 b.second.0 ≡ b.order) × (
 fits_more : (x : Bond) (all bs : List Bond) → are_joined bs x.first.0 x.second.0 ≡ false → Fits all bs → Fits (x ∷ all) bs
 fits_more x all [] none f = tt
 fits_more x all (b ∷ bs) none f =
-    let r = or_false (joins b x.first.0 x.second.0) (are_joined bs x.first.0 x.second.0) none in
-    let apart : joins x b.first.0 b.second.0 ≡ false = not_true (joins x b.first.0 b.second.0) (λ t. false≢true (sym r.0 ∙ joins_each x b t)) in
-    let apart' : joins x b.second.0 b.first.0 ≡ false = joins_swap x b.second.0 b.first.0 ∙ apart in
+    let r = or_parts (joins b x.first.0 x.second.0) (are_joined bs x.first.0 x.second.0) none in
+    let apart : joins x b.first.0 b.second.0 ≡ false = false_from_ne_true (joins x b.first.0 b.second.0) (λ t. false≢true (sym r.0 ∙ joins_each x b t)) in
+    let apart' : joins x b.second.0 b.first.0 ≡ false = joins_turned x b.second.0 b.first.0 ∙ apart in
     ((rw apart f.0.0, rw apart' f.0.1), fits_more x all bs r.1 f.1)
-
-joins_own : (b : Bond) → joins b b.first.0 b.second.0 ≡ true
-joins_own b = rw (test_same b.first.0, test_same b.second.0) refl
 
 pub fits : (n : ℕ) (bs : List Bond) → Simple n bs → Fits bs bs
 fits n [] s = tt
 fits n (b ∷ bs) s =
-    let own = joins_own b in
-    let own' : joins b b.second.0 b.first.0 ≡ true = joins_swap b b.second.0 b.first.0 ∙ own in
+    let own = joins_first b in
+    let own' : joins b b.second.0 b.first.0 ≡ true = joins_turned b b.second.0 b.first.0 ∙ own in
     ((rw own refl, rw own' refl), fits_more b bs bs s.1.0 (fits n bs s.1.1))
 
 -- each bond has this order
@@ -53,7 +52,7 @@ abbrev pub Ordered : (ℕ → ℕ → ℕ) → List Bond → Type 0
 Ordered v [] = Unit {0}
 Ordered v (b ∷ bs) = (b.order ≡ v b.first.0 b.second.0) × Ordered v bs
 
--- the weight of a pair for the sum at place k
+-- the weight of a pair for the sum at rank k
 abbrev pub weight : (ℕ → ℕ → ℕ) → ℕ → ℕ → ℕ → ℕ
 weight v k j l = if j == k || l == k then v j l else 0
 
@@ -72,12 +71,12 @@ turned_weight : (v : ℕ → ℕ → ℕ) (k x y o q : ℕ) (t : Bool) → v x y
 turned_weight v k x y o q true e f = ap (λ (z : ℕ). if x == k || y == k then z else 0) e
 turned_weight v k x y o q false e f = ap (λ (z : ℕ). if y == k || x == k then z else 0) f ∙ ap (λ (z : Bool). if z then q else 0) (or_comm (y == k) (x == k))
 
-placed_weights : (n k : ℕ) (all bs : List Bond) (at_ pl : ℕ → ℕ) → Inverse n at_ pl → k < n → Simple n bs → Fits all bs
-    → bonds_sum (weight (λ j l. order_between all (at_ j) (at_ l)) k) (placed pl bs) ≡ bond_sum bs (at_ k)
-placed_weights n k all [] at_ pl i below s f = refl
-placed_weights n k all (b ∷ bs) at_ pl i below s f =
+ranked_weights : (n k : ℕ) (all bs : List Bond) (at_ pl : ℕ → ℕ) → Inverse n at_ pl → k < n → Simple n bs → Fits all bs
+    → bonds_sum (weight (λ j l. order_between all (at_ j) (at_ l)) k) (ranked pl bs) ≡ bond_sum bs (at_ k)
+ranked_weights n k all [] at_ pl i below s f = refl
+ranked_weights n k all (b ∷ bs) at_ pl i below s f =
     let v : ℕ → ℕ → ℕ = λ j l. order_between all (at_ j) (at_ l) in
-    let rest = placed_weights n k all bs at_ pl i below s.1.1 f.1 in
+    let rest = ranked_weights n k all bs at_ pl i below s.1.1 f.1 in
     let ef = i.forth b.first.0 s.0.0 in
     let es = i.forth b.second.0 s.0.1.0 in
     let e1 : v (pl b.first.0) (pl b.second.0) ≡ b.order = ap (λ (x : ℕ). order_between all x (at_ (pl b.second.0))) ef ∙ ap (order_between all b.first.0) es ∙ f.0.0 in
@@ -86,9 +85,9 @@ placed_weights n k all (b ∷ bs) at_ pl i below s f =
     let t2 = equal_tests n at_ pl b.second.0 k i s.0.1.0 below in
     let here = turned_weight v k (pl b.first.0) (pl b.second.0) b.order b.order (nat_lt (pl b.first.0) (pl b.second.0)) e1 e2 in
     let there : (if touches b (at_ k) then b.order else 0) ≡ (if pl b.first.0 == k || pl b.second.0 == k then b.order else 0) = rw (t1, t2) refl in
-    ap (λ (z : ℕ). z + bonds_sum (weight v k) (placed pl bs)) (here ∙ sym there) ∙ ap (λ (z : ℕ). (if touches b (at_ k) then b.order else 0) + z) rest ∙ sym (sum_more (at_ k) b bs)
+    ap (λ (z : ℕ). z + bonds_sum (weight v k) (ranked pl bs)) (here ∙ sym there) ∙ ap (λ (z : ℕ). (if touches b (at_ k) then b.order else 0) + z) rest ∙ sym (sum_more (at_ k) b bs)
 
--- the order of the bond between the atoms at these places
+-- the order of the bond between the atoms at these ranks
 abbrev pub order_at : Molecule → ℕ → ℕ → ℕ
 order_at m j l = order_between m.bonds (at (graph_of m) j) (at (graph_of m) l)
 
@@ -112,7 +111,7 @@ read_orders m v say =
 pub symbols_say : (m : Molecule) → IsMolecule m → SayOrders m (λ j l. bond_symbol (graph_of m) j l)
 symbols_say m is j l = said_between (length m.atoms) m.bonds (at (graph_of m) j) (at (graph_of m) l) is.bonds
 
--- The atom that is read at place k has the sum of orders of the atom written there: so it has the same hydrogens.
+-- The atom that is read at rank k has the sum of orders of the atom written there: so it has the same hydrogens.
 pub read_bond_sum : (m : Molecule) (v : ℕ → ℕ → Option BondMark) (k : ℕ) → IsMolecule m → SayOrders m v → k < length m.atoms
     → bond_sum (bonds_of (onto_all (graph_roles (graph_of m) v) [])) k ≡ bond_sum m.bonds (at (graph_of m) k)
 read_bond_sum m v k is say below =
@@ -120,4 +119,4 @@ read_bond_sum m v k is say below =
     let s : Simple (length m.atoms) m.bonds = simple_of (length m.atoms) m.bonds is.bonds is.once in
     sym (read_weights (order_at m) k (bonds_of (onto_all (graph_roles g v) [])) (read_orders m v say))
     ∙ read_sum m v (weight (order_at m) k) s
-    ∙ placed_weights (length m.atoms) k m.bonds m.bonds (λ j. at g j) (λ u. place_of g u) (inverse g) below s (fits (length m.atoms) m.bonds s)
+    ∙ ranked_weights (length m.atoms) k m.bonds m.bonds (λ j. at g j) (λ u. rank_of g u) (inverse g) below s (fits (length m.atoms) m.bonds s)

@@ -1,24 +1,23 @@
 -- Where the depth is 0 at the end, each branch is closed.
 use Rattle.std.proofs.Common.{◌≡◌, ℕ, zero, suc, ◌+◌, ◌≤◌, ◌<◌, List, [], ◌∷◌, ◌++◌, length, get_or, take, drop, reverse, true, false, Option, Some, None, refl, ap, sym, ◌∙◌, subst, inl, inr, arith}
 use Rattle.std.specs.Prelude.{◌&&◌, slice_get}
-use Rattle.std.proofs.lemmas.Bool.{cases_lt, false≢true}
+use Rattle.std.proofs.lemmas.Bool.{cases_lt, false≢true, and_parts, false_from_ne_true}
 use Rattle.std.proofs.lemmas.List.{take-append-drop}
-use Rattle.std.proofs.lemmas.Option.{slice_get-get_or}
+use Rattle.std.proofs.lemmas.Option.{slice_get-get_or, same_Some}
 use mathlib.Core.List.{reverse_aux}
 use Rattle.smi_graph.specs.declared.role.Role.{Role}
 use Rattle.smi_graph.specs.declared.role.Role.TheVariants.{Atom, Bond, Ring, Enter, Leave, Dot}
 use Rattle.smi_graph.specs.Order.{depth, depth_behind, tokens_before, unclosed_at, stays_open, is_enter}
-use Rattle.smi_write.proofs.Least.{and_true, not_true, some_same}
-use Rattle.smi_write.proofs.Along.{tokens_before_more, slice_get_end}
+use Rattle.smi_graph.proofs.Prefixes.{tokens_before_more, slice_get_end}
 
 depth_enter : (o : Option ℕ) (d : ℕ) → depth_behind o Enter ≡ Some d → (c : ℕ) × (o ≡ Some c) × (d ≡ c + 1)
 depth_enter None d h = cc
-depth_enter (Some c) d h = (c, refl, sym (some_same (c + 1) d h))
+depth_enter (Some c) d h = (c, refl, sym (same_Some (c + 1) d h))
 
 depth_leave : (o : Option ℕ) (d : ℕ) → depth_behind o Leave ≡ Some d → o ≡ Some (suc d)
 depth_leave None d h = cc
 depth_leave (Some zero) d h = cc
-depth_leave (Some (suc c)) d h = let e : c ≡ d = some_same c d h in ap (λ (n : ℕ). Some (suc n)) e
+depth_leave (Some (suc c)) d h = let e : c ≡ d = same_Some c d h in ap (λ (n : ℕ). Some (suc n)) e
 
 -- a token that changes no depth
 depth_keep : (o : Option ℕ) (k : Role) (d : ℕ) → ((c : ℕ) → depth_behind (Some c) k ≡ Some c) → depth_behind o k ≡ Some d → o ≡ Some d
@@ -27,7 +26,7 @@ depth_keep (Some c) k d same h = sym (same c) ∙ h
 
 -- the depth at the end is at least that before, less the level that may be lost
 floor : (rest before : List Role) (d l e : ℕ) → depth before ≡ Some d → stays_open l rest ≡ true → depth (reverse_aux rest before) ≡ Some e → d ≤ e + l
-floor [] before d l e deep stays end = let s : d ≡ e = some_same d e (sym deep ∙ end) in omega arith
+floor [] before d l e deep stays end = let s : d ≡ e = same_Some d e (sym deep ∙ end) in omega arith
 floor (Atom lower ∷ rest) before d l e deep stays end = floor rest (Atom lower ∷ before) d l e (ap (λ (o : Option ℕ). depth_behind o (Atom lower)) deep) stays end
 floor (Bond mark ∷ rest) before d l e deep stays end = floor rest (Bond mark ∷ before) d l e (ap (λ (o : Option ℕ). depth_behind o (Bond mark)) deep) stays end
 floor (Ring number ∷ rest) before d l e deep stays end = floor rest (Ring number ∷ before) d l e (ap (λ (o : Option ℕ). depth_behind o (Ring number)) deep) stays end
@@ -62,8 +61,8 @@ depth_front (Enter ∷ rest) before e h = let (d, is) = depth_front rest (Enter 
 depth_front (Leave ∷ rest) before e h = let (d, is) = depth_front rest (Leave ∷ before) e h in (suc d, depth_leave (depth before) d is)
 
 closed_here : (ks : List Role) → depth (reverse ks) ≡ Some 0 → (j : ℕ) → j < length ks → unclosed_at ks j ≡ false
-closed_here ks deep j less = not_true (unclosed_at ks j) (λ (h : unclosed_at ks j ≡ true).
-    let both = and_true (is_enter (slice_get ks j)) (stays_open 0 (drop (j + 1) ks)) h in
+closed_here ks deep j less = false_from_ne_true (unclosed_at ks j) (λ (h : unclosed_at ks j ≡ true).
+    let both = and_parts (is_enter (slice_get ks j)) (stays_open 0 (drop (j + 1) ks)) h in
     let k : get_or ks j Enter ≡ Enter = enter_is (get_or ks j Enter) (ap is_enter (sym (slice_get-get_or ks j Enter less)) ∙ both.0) in
     let end : depth (reverse_aux (drop (j + 1) ks) (tokens_before ks (j + 1))) ≡ Some 0 = ap depth (sym (reverse_split ks (j + 1))) ∙ deep in
     let (c, is) = depth_front (drop (j + 1) ks) (tokens_before ks (j + 1)) 0 end in

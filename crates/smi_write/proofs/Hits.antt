@@ -3,10 +3,11 @@ use Rattle.std.specs.Prelude.{Option}
 use Rattle.smi_lex.specs.declared.token.BondMark.{BondMark}
 use Rattle.std.proofs.Common.{◌≡◌, ◌≢◌, ℕ, zero, suc, ◌+◌, ◌≤◌, ◌<◌, List, [], ◌∷◌, ◌++◌, Bool, true, false, refl, ap, sym, ◌∙◌, subst, inl, inr, arith}
 use Rattle.std.specs.Prelude.{◌==◌, ◌&&◌, nat_le, nat_lt, if◌then◌else◌}
-use Rattle.std.proofs.lemmas.Bool.{cases_eq, cases_lt}
+use Rattle.std.proofs.lemmas.Bool.{cases_eq, cases_lt, and_right, ne_eqb}
 use Rattle.std.proofs.lemmas.Bool.Decides.{nat_tests}
+use Rattle.std.proofs.Math.Bool.{and-true}
+use Rattle.mc_mol.proofs.Halves.{same_test}
 use Rattle.smi_mean.specs.RingNumbers.{Pair, new_pair, opened, ending, kept, insert, sorted, passing, partners, onto_all, active, closing}
-use Rattle.smi_write.proofs.Least.{test_other, test_same}
 
 abbrev pub bit : Bool → ℕ
 bit true = 1
@@ -29,38 +30,30 @@ pair_onto : (j l : ℕ) (xs ys : List Pair) → pair_count j l (onto_all xs ys) 
 pair_onto j l [] ys = omega arith
 pair_onto j l (x ∷ xs) ys = let h = pair_onto j l xs (x ∷ ys) in h ∙ omega arith
 
-pub and_other : (a b : Bool) → b ≡ false → (a && b) ≡ false
-and_other true b h = h
-and_other false b h = refl
-
-and_end : (a : Bool) → (a && true) ≡ a
-and_end true = refl
-and_end false = refl
-
 kept_same : (j k : ℕ) (ps : List Pair) → pair_count j k (kept k ps) ≡ 0
 kept_same j k [] = refl
 kept_same j k (p ∷ ps) = elim (cases_eq p.partner k) [
-  | inl e ↦ let t : (p.partner == k) ≡ true = ap (λ (x : ℕ). x == k) e ∙ test_same k in rw t (kept_same j k ps)
-  | inr ne ↦ rw (test_other p.partner k ne, and_other (p.opener == j) (p.partner == k) (test_other p.partner k ne)) (let h = kept_same j k ps in omega arith)
+  | inl e ↦ let t : (p.partner == k) ≡ true = ap (λ (x : ℕ). x == k) e ∙ same_test k in rw t (kept_same j k ps)
+  | inr ne ↦ rw (ne_eqb p.partner k ne, and_right (p.opener == j) (p.partner == k) (ne_eqb p.partner k ne)) (let h = kept_same j k ps in omega arith)
 ]
 
 kept_other : (j l k : ℕ) (ps : List Pair) → l ≢ k → pair_count j l (kept k ps) ≡ pair_count j l ps
 kept_other j l k [] ne = refl
 kept_other j l k (p ∷ ps) ne = elim (cases_eq p.partner k) [
   | inl e ↦
-      let t : (p.partner == k) ≡ true = ap (λ (x : ℕ). x == k) e ∙ test_same k in
-      let u : (p.opener == j && p.partner == l) ≡ false = and_other (p.opener == j) (p.partner == l) (test_other p.partner l (omega arith)) in
+      let t : (p.partner == k) ≡ true = ap (λ (x : ℕ). x == k) e ∙ same_test k in
+      let u : (p.opener == j && p.partner == l) ≡ false = and_right (p.opener == j) (p.partner == l) (ne_eqb p.partner l (omega arith)) in
       rw (t, u) (let h = kept_other j l k ps ne in omega arith)
-  | inr o ↦ rw (test_other p.partner k o) (ap (λ (x : ℕ). bit (p.opener == j && p.partner == l) + x) (kept_other j l k ps ne))
+  | inr o ↦ rw (ne_eqb p.partner k o) (ap (λ (x : ℕ). bit (p.opener == j && p.partner == l) + x) (kept_other j l k ps ne))
 ]
 
 ending_count : (j k : ℕ) (ps : List Pair) → opener_count j (ending k ps) ≡ pair_count j k ps
 ending_count j k [] = refl
 ending_count j k (p ∷ ps) = elim (cases_eq p.partner k) [
   | inl e ↦
-      let t : (p.partner == k) ≡ true = ap (λ (x : ℕ). x == k) e ∙ test_same k in
-      rw (t, and_end (p.opener == j)) (ap (λ (x : ℕ). bit (p.opener == j) + x) (ending_count j k ps))
-  | inr ne ↦ rw (test_other p.partner k ne, and_other (p.opener == j) false refl) (let h = ending_count j k ps in omega arith)
+      let t : (p.partner == k) ≡ true = ap (λ (x : ℕ). x == k) e ∙ same_test k in
+      rw (t, and-true (p.opener == j)) (ap (λ (x : ℕ). bit (p.opener == j) + x) (ending_count j k ps))
+  | inr ne ↦ rw (ne_eqb p.partner k ne, and_right (p.opener == j) false refl) (let h = ending_count j k ps in omega arith)
 ]
 
 insert_count : (j : ℕ) (p : Pair) (qs : List Pair) → opener_count j (insert p qs) ≡ opener_count j (p ∷ qs)
@@ -77,11 +70,11 @@ sorted_count j (p ∷ ps) = insert_count j p (sorted ps) ∙ ap (λ (x : ℕ). b
 
 opened_here : (v : ℕ → ℕ → Option BondMark) (k l : ℕ) (used : List Pair) (ls : List ℕ) → pair_count k l (opened v used k ls) ≡ occurs l ls
 opened_here v k l used [] = refl
-opened_here v k l used (x ∷ ls) = rw (test_same k) (ap (λ (y : ℕ). bit (x == l) + y) (opened_here v k l (new_pair v used k x ∷ used) ls))
+opened_here v k l used (x ∷ ls) = rw (same_test k) (ap (λ (y : ℕ). bit (x == l) + y) (opened_here v k l (new_pair v used k x ∷ used) ls))
 
 opened_other : (v : ℕ → ℕ → Option BondMark) (j k l : ℕ) (used : List Pair) (ls : List ℕ) → k ≢ j → pair_count j l (opened v used k ls) ≡ 0
 opened_other v j k l used [] ne = refl
-opened_other v j k l used (x ∷ ls) ne = rw (test_other k j ne) (let h = opened_other v j k l (new_pair v used k x ∷ used) ls ne in omega arith)
+opened_other v j k l used (x ∷ ls) ne = rw (ne_eqb k j ne) (let h = opened_other v j k l (new_pair v used k x ∷ used) ls ne in omega arith)
 
 occurs_append : (l : ℕ) (xs ys : List ℕ) → occurs l (xs ++ ys) ≡ occurs l xs + occurs l ys
 occurs_append l [] ys = omega arith
@@ -92,7 +85,7 @@ occurs_none l p zero le = refl
 occurs_none l p (suc n) le = occurs_append l (passing p n) (if p n then n ∷ [] else []) ∙ by_test (p n) (occurs_none l p n (omega arith))
   where
     by_test : (b : Bool) → occurs l (passing p n) ≡ 0 → occurs l (passing p n) + occurs l (if b then n ∷ [] else []) ≡ 0
-    by_test true h = rw (test_other n l (omega arith), h) refl
+    by_test true h = rw (ne_eqb n l (omega arith), h) refl
     by_test false h = rw h refl
 
 occurs_passing : (l : ℕ) (p : ℕ → Bool) (n : ℕ) → l < n → occurs l (passing p n) ≡ bit (p l)
@@ -100,7 +93,7 @@ occurs_passing l p zero less = absurd (omega arith)
 occurs_passing l p (suc n) less = occurs_append l (passing p n) (if p n then n ∷ [] else []) ∙ elim (cases_eq n l) [
   | inl e ↦
       let none = occurs_none l p n (omega arith) in
-      let t : (n == l) ≡ true = ap (λ (x : ℕ). x == l) e ∙ test_same l in
+      let t : (n == l) ≡ true = ap (λ (x : ℕ). x == l) e ∙ same_test l in
       here (p n) none t ∙ ap (λ (x : ℕ). bit (p x)) e
   | inr ne ↦ there (p n) ne (occurs_passing l p n (omega arith))
 ]
@@ -110,7 +103,7 @@ occurs_passing l p (suc n) less = occurs_append l (passing p n) (if p n then n �
     here false h t = rw h refl
 
     there : (b : Bool) → n ≢ l → occurs l (passing p n) ≡ bit (p l) → occurs l (passing p n) + occurs l (if b then n ∷ [] else []) ≡ bit (p l)
-    there true ne h = rw (test_other n l ne) (omega arith)
+    there true ne h = rw (ne_eqb n l ne) (omega arith)
     there false ne h = omega arith
 
 -- Which ring numbers are open before atom k
@@ -157,8 +150,8 @@ Within k n (p ∷ ps) = ((k ≤ p.partner) × (p.partner < n)) × Within k n ps
 within_kept : (k n : ℕ) (ps : List Pair) → Within k n ps → Within (suc k) n (kept k ps)
 within_kept k n [] h = tt
 within_kept k n (p ∷ ps) h = elim (cases_eq p.partner k) [
-  | inl e ↦ let t : (p.partner == k) ≡ true = ap (λ (x : ℕ). x == k) e ∙ test_same k in rw t (within_kept k n ps h.1)
-  | inr ne ↦ let a = h.0.0 in let b = h.0.1 in rw (test_other p.partner k ne) ((omega arith, b), within_kept k n ps h.1)
+  | inl e ↦ let t : (p.partner == k) ≡ true = ap (λ (x : ℕ). x == k) e ∙ same_test k in rw t (within_kept k n ps h.1)
+  | inr ne ↦ let a = h.0.0 in let b = h.0.1 in rw (ne_eqb p.partner k ne) ((omega arith, b), within_kept k n ps h.1)
 ]
 
 abbrev pub Between : ℕ → ℕ → List ℕ → Type 0

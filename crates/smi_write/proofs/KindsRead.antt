@@ -1,7 +1,7 @@
 -- The tokens of the written form, spelled one behind the other, are read as these tokens.
 use Rattle.std.proofs.Common.{arith, ◌≡◌, ◌<◌, ◌+◌, ℕ, true, false, List, [], ◌∷◌, ◌++◌, refl, sym, ap, subst, ◌∙◌, inl, inr}
 use Rattle.std.specs.Prelude.{flat_map, nat_lt}
-use Rattle.std.proofs.lemmas.Bool.{cases_Bool}
+use Rattle.std.proofs.lemmas.Bool.{cases_Bool, ltb-true}
 use Rattle.std.proofs.lemmas.Bool.Decides.{nat_tests}
 use Rattle.std.proofs.lemmas.Fmt.{decimal_digit}
 use Rattle.mc_elements.specs.declared.element.Element.{Element}
@@ -16,7 +16,7 @@ use Rattle.smi_lex.proofs.TokenRead.{next_is}
 use Rattle.smi_lex.proofs.Written.{EndsBefore, kinds_written, unread_written}
 use Rattle.smi_mean.specs.Written.{ring_text, spelling}
 use Rattle.smi_write.proofs.EachToken.{Each}
-use Rattle.smi_write.proofs.TokenSpelled.{IsWritten, below, token_spelled}
+use Rattle.smi_write.proofs.TokenSpelled.{IsWritten, token_spelled}
 
 -- tokens that the written form has
 abbrev pub AreWritten : List TokenKind → Type 0
@@ -30,11 +30,11 @@ digit_apart : (n : ℕ) (rest : List ℕ) → n < 10 → BeginsApart ((48 + n) �
 digit_apart n rest small = (grind (arith, nat_tests), grind (arith, nat_tests))
 
 one_digit : (n : ℕ) → nat_lt n 10 ≡ true → ring_text n ≡ (48 + n) ∷ []
-one_digit n small = rw small (decimal_digit n (below n 10 small))
+one_digit n small = rw small (decimal_digit n (ltb-true n 10 small))
 
 ring_apart : (n : ℕ) (rest : List ℕ) → BeginsApart (ring_text n ++ rest)
 ring_apart n rest = elim (cases_Bool (nat_lt n 10)) [
-  | inl small ↦ subst (λ (t : List ℕ). BeginsApart (t ++ rest)) (sym (one_digit n small)) (digit_apart n rest (below n 10 small))
+  | inl small ↦ subst (λ (t : List ℕ). BeginsApart (t ++ rest)) (sym (one_digit n small)) (digit_apart n rest (ltb-true n 10 small))
   | inr large ↦ rw large (refl, refl)
 ]
 

@@ -1,50 +1,14 @@
 -- The least number that passes, and tests.
-use Rattle.std.proofs.Common.{◌≡◌, ◌≢◌, ℕ, zero, suc, ◌<◌, Bool, true, false, Some, None, Option, refl, sym, ◌∙◌, arith, subst, inl, inr}
-use Rattle.std.specs.Prelude.{◌==◌, ◌&&◌, ◌||◌, not, ◌⊎◌}
+use Rattle.std.proofs.Common.{◌≡◌, ◌≢◌, ℕ, zero, suc, ◌<◌, Bool, true, false, Some, None, Option, refl, ◌∙◌, arith, subst, inl, inr}
+use Rattle.std.specs.Prelude.{◌&&◌}
 use Rattle.std.proofs.lemmas.Bool.{cases_lt, false≢true}
-use Rattle.std.proofs.lemmas.Bool.Decides.{nat_tests}
+use Rattle.std.proofs.lemmas.Option.{same_Some}
 use Rattle.smi_graph.specs.Links.{or_else}
 use Rattle.smi_mean.specs.Order.{least, some_if}
-
-pub test_other : (p q : ℕ) → p ≢ q → (p == q) ≡ false
-test_other p q ne = grind (arith, nat_tests)
-
-pub test_same : (p : ℕ) → (p == p) ≡ true
-test_same p = grind (arith, nat_tests)
-
-pub same_of : (a b : ℕ) → (a == b) ≡ true → a ≡ b
-same_of a b h = grind (arith, nat_tests)
-
-pub and_true : (a b : Bool) → a && b ≡ true → (a ≡ true) × (b ≡ true)
-and_true true b h = (refl, h)
-and_true false b h = absurd (false≢true h)
 
 pub and_false : (a b : Bool) → a ≡ true → a && b ≡ false → b ≡ false
 and_false true b e h = h
 and_false false b e h = absurd (false≢true e)
-
-pub or_true : (a b : Bool) → a || b ≡ true → (a ≡ true) ⊎ (b ≡ true)
-or_true true b h = inl refl
-or_true false b h = inr h
-
-pub or_false : (a b : Bool) → a || b ≡ false → (a ≡ false) × (b ≡ false)
-or_false true b h = absurd (false≢true (sym h))
-or_false false b h = (refl, h)
-
-pub not_is : (b : Bool) → not b ≡ true → b ≡ false
-not_is true h = absurd (false≢true h)
-not_is false h = refl
-
-pub not_false : (b : Bool) → not b ≡ false → b ≡ true
-not_false true h = refl
-not_false false h = absurd (false≢true (sym h))
-
-pub not_true : (b : Bool) → (b ≡ true → ⊥) → b ≡ false
-not_true true h = absurd (h refl)
-not_true false h = refl
-
-pub some_same : {A : Type 0} → (a b : A) → Some a ≡ Some b → a ≡ b
-some_same a b h = cc
 
 -- nothing below passes
 pub least_all : (p : ℕ → Bool) (n : ℕ) → least p n ≡ None → (v : ℕ) → v < n → p v ≡ false
@@ -70,5 +34,5 @@ least_some p (suc n) k h = by_rest (λ e. least_some p n k e) (least p n) refl (
   where
     by_rest : (least p n ≡ Some k → IsLeast p n k) → (o : Option ℕ) → least p n ≡ o → (b : Bool) → p n ≡ b → or_else o (some_if b n) ≡ Some k → IsLeast p (suc n) k
     by_rest more None e false f h = cc
-    by_rest more None e true f h = subst (λ (x : ℕ). IsLeast p (suc n) x) (some_same n k h) (record { below = omega arith; passes = f; first = least_all p n e })
+    by_rest more None e true f h = subst (λ (x : ℕ). IsLeast p (suc n) x) (same_Some n k h) (record { below = omega arith; passes = f; first = least_all p n e })
     by_rest more (Some j) e b f h = let r = more (e ∙ h) in record { below = let l = r.below in omega arith; passes = r.passes; first = r.first }

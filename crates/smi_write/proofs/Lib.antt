@@ -16,7 +16,7 @@ mod Symbols
 mod Whole
 mod Sums
 mod Simple
-mod Placed
+mod Ranked
 mod BondSums
 mod SameBonds
 mod Closed

@@ -2,12 +2,13 @@
 use Rattle.std.proofs.Common.{◌≡◌, ℕ, zero, suc, ◌≤◌, ◌<◌, List, [], ◌∷◌, Bool, true, false, Option, Some, None, refl, ap, sym, ◌∙◌, inl, inr, arith}
 use Rattle.std.specs.Prelude.{◌⊎◌, ◌==◌, ◌&&◌, ◌||◌, nat_lt, if◌then◌else◌}
 use Rattle.std.specs.List.{All, list_any}
-use Rattle.std.proofs.lemmas.Bool.{cases_lt, false≢true}
+use Rattle.std.proofs.lemmas.Bool.{cases_lt, false≢true, or_left, or_right, ltb-true, ltb-false, eqb-true, or_cases, false_from_ne_true, cases_Bool}
 use Rattle.std.proofs.lemmas.Bool.Decides.{nat_tests}
 use Rattle.mc_mol.proofs.Lists.{All-head, All-tail}
+use Rattle.mc_mol.proofs.Halves.{same_test}
 use Rattle.smi_mean.specs.Order.{least}
 use Rattle.smi_write.specs.Lesser.{lesser, lowest}
-use Rattle.smi_write.proofs.Least.{least_all, least_some, not_true, or_true, test_same, same_of}
+use Rattle.smi_write.proofs.Least.{least_all, least_some}
 use Rattle.smi_write.proofs.Stacked.{least_none}
 
 -- the least number that passes, from its property
@@ -28,10 +29,10 @@ pub least_same : (p q : ℕ → Bool) (n : ℕ) → ((v : ℕ) → v < n → p v
 least_same p q n down up = by_least (least q n) refl
   where
     by_least : (o : Option ℕ) → least q n ≡ o → least p n ≡ o
-    by_least None e = least_none p n (λ v less. not_true (p v) (λ h. let (w, le, passes) = down v less h in false≢true (sym (least_all q n e w (omega arith)) ∙ passes)))
+    by_least None e = least_none p n (λ v less. false_from_ne_true (p v) (λ h. let (w, le, passes) = down v less h in false≢true (sym (least_all q n e w (omega arith)) ∙ passes)))
     by_least (Some k) e =
         let l = least_some q n k e in
-        least_is p n k l.below (up k l.below l.passes) (λ v less. not_true (p v) (λ h.
+        least_is p n k l.below (up k l.below l.passes) (λ v less. false_from_ne_true (p v) (λ h.
         let (w, le, passes) = down v (let b = l.below in omega arith) h in false≢true (sym (l.first w (omega arith)) ∙ passes)))
 
 pub least_cong : (p q : ℕ → Bool) (n : ℕ) → ((v : ℕ) → v < n → p v ≡ q v) → least p n ≡ least q n
@@ -42,24 +43,11 @@ abbrev pub hits : Option ℕ → ℕ → Bool
 hits None v = false
 hits (Some b) v = b == v
 
-by_lesser : (b k : ℕ) → (nat_lt k b ≡ true) ⊎ (nat_lt k b ≡ false)
-by_lesser b k = by_bool (nat_lt k b) refl
-  where
-    by_bool : (t : Bool) → nat_lt k b ≡ t → (nat_lt k b ≡ true) ⊎ (nat_lt k b ≡ false)
-    by_bool true e = inl e
-    by_bool false e = inr e
-
-is_lower : (b k : ℕ) → nat_lt k b ≡ true → k < b
-is_lower b k h = grind (arith, nat_tests)
-
-is_no_lower : (b k : ℕ) → nat_lt k b ≡ false → b ≤ k
-is_no_lower b k h = grind (arith, nat_tests)
-
 -- the lesser is one of the two
 lesser_of : (best : Option ℕ) (k v : ℕ) → hits (lesser best k) v ≡ true → (hits best v ≡ true) ⊎ (k ≡ v)
-lesser_of None k v h = inr (same_of k v h)
-lesser_of (Some b) k v h = elim (by_lesser b k) [
-  | inl t ↦ let h' : hits (if nat_lt k b then Some k else Some b) v ≡ true = h in inr (same_of k v (rw t at h'))
+lesser_of None k v h = inr (eqb-true k v h)
+lesser_of (Some b) k v h = elim (cases_Bool (nat_lt k b)) [
+  | inl t ↦ let h' : hits (if nat_lt k b then Some k else Some b) v ≡ true = h in inr (eqb-true k v (rw t at h'))
   | inr f ↦ let h' : hits (if nat_lt k b then Some k else Some b) v ≡ true = h in inl (rw f at h')
 ]
 
@@ -69,50 +57,43 @@ lesser_below best k n below inside v h = elim (lesser_of best k v h) [ inl was �
 -- each of the two is the lesser, or is above it
 lesser_down : (best : Option ℕ) (k v : ℕ) → (hits best v ≡ true) ⊎ (k ≡ v) → (w : ℕ) × (w ≤ v) × (hits (lesser best k) w ≡ true)
 lesser_down None k v (inl h) = absurd (false≢true h)
-lesser_down None k v (inr e) = (k, omega arith, test_same k)
-lesser_down (Some b) k v h = elim (by_lesser b k) [
-  | inl t ↦ let lower = is_lower b k t in (k, at_most v h lower, rw t (test_same k))
-  | inr f ↦ let higher = is_no_lower b k f in (b, least v h higher, rw f (test_same b))
+lesser_down None k v (inr e) = (k, omega arith, same_test k)
+lesser_down (Some b) k v h = elim (cases_Bool (nat_lt k b)) [
+  | inl t ↦ let lower = ltb-true k b t in (k, at_most v h lower, rw t (same_test k))
+  | inr f ↦ let higher = ltb-false k b f in (b, least v h higher, rw f (same_test b))
 ]
   where
     at_most : (v : ℕ) → ((b == v) ≡ true) ⊎ (k ≡ v) → k < b → k ≤ v
-    at_most v (inl h) less = let e = same_of b v h in omega arith
+    at_most v (inl h) less = let e = eqb-true b v h in omega arith
     at_most v (inr e) less = omega arith
 
     least : (v : ℕ) → ((b == v) ≡ true) ⊎ (k ≡ v) → b ≤ k → b ≤ v
-    least v (inl h) le = let e = same_of b v h in omega arith
+    least v (inl h) le = let e = eqb-true b v h in omega arith
     least v (inr e) le = omega arith
 
-true_left : (a b : Bool) → a ≡ true → (a || b) ≡ true
-true_left a b e = rw e refl
-
-true_right : (a b : Bool) → b ≡ true → (a || b) ≡ true
-true_right true b e = refl
-true_right false b e = e
-
 down : (best : Option ℕ) (k : ℕ) (others : ℕ → Bool) (v : ℕ) → (hits best v || ((true && k == v) || others v)) ≡ true → (w : ℕ) × (w ≤ v) × ((hits (lesser best k) w || others w) ≡ true)
-down best k others v h = elim (or_true (hits best v) ((k == v) || others v) h) [
-  | inl was ↦ let (w, le, e) = lesser_down best k v (inl was) in (w, le, true_left _ _ e)
-  | inr more ↦ elim (or_true (k == v) (others v) more) [
-    | inl here ↦ let (w, le, e) = lesser_down best k v (inr (same_of k v here)) in (w, le, true_left _ _ e)
-    | inr other ↦ (v, omega arith, true_right _ _ other)
+down best k others v h = elim (or_cases (hits best v) ((k == v) || others v) h) [
+  | inl was ↦ let (w, le, e) = lesser_down best k v (inl was) in (w, le, or_left _ _ e)
+  | inr more ↦ elim (or_cases (k == v) (others v) more) [
+    | inl here ↦ let (w, le, e) = lesser_down best k v (inr (eqb-true k v here)) in (w, le, or_left _ _ e)
+    | inr other ↦ (v, omega arith, or_right _ _ other)
   ]
 ]
 
 up : (best : Option ℕ) (k : ℕ) (others : ℕ → Bool) (v : ℕ) → (hits (lesser best k) v || others v) ≡ true → (hits best v || ((true && k == v) || others v)) ≡ true
-up best k others v h = elim (or_true (hits (lesser best k) v) (others v) h) [
+up best k others v h = elim (or_cases (hits (lesser best k) v) (others v) h) [
   | inl one ↦ elim (lesser_of best k v one) [
-    | inl was ↦ true_left (hits best v) _ was
-    | inr same ↦ true_right (hits best v) _ (true_left (k == v) (others v) (ap (λ (x : ℕ). x == v) same ∙ test_same v))
+    | inl was ↦ or_left (hits best v) _ was
+    | inr same ↦ or_right (hits best v) _ (or_left (k == v) (others v) (ap (λ (x : ℕ). x == v) same ∙ same_test v))
   ]
-  | inr other ↦ true_right (hits best v) _ (true_right (k == v) (others v) other)
+  | inr other ↦ or_right (hits best v) _ (or_right (k == v) (others v) other)
 ]
 
 -- The lowest so far and the keys to come: their least number is the lowest of them all.
 pub lowest_is : {A : Type 0} (passes : A → Bool) (key : A → ℕ) (n : ℕ) (xs : List A) (best : Option ℕ) → ((v : ℕ) → hits best v ≡ true → v < n)
     → All (λ x. passes x ≡ true → key x < n) xs → lowest passes key best xs ≡ least (λ v. hits best v || list_any (λ x. passes x && key x == v) xs) n
 lowest_is passes key n [] None below all = sym (least_none _ n (λ v less. refl))
-lowest_is passes key n [] (Some b) below all = sym (least_is _ n b (below b (test_same b)) (rw (test_same b) refl) (λ v less. no_hit v less))
+lowest_is passes key n [] (Some b) below all = sym (least_is _ n b (below b (same_test b)) (rw (same_test b) refl) (λ v less. no_hit v less))
   where
     no_hit : (v : ℕ) → v < b → ((b == v) || false) ≡ false
     no_hit v less = let e : (b == v) ≡ false = grind (arith, nat_tests) in rw e refl

@@ -2,25 +2,24 @@
 use Rattle.std.proofs.Common.{◌≡◌, ◌≢◌, ℕ, zero, suc, ◌+◌, ◌-◌, ◌≤◌, ◌<◌, List, [], ◌∷◌, ◌++◌, length, get_or, slice_get, slice_set, Bool, true, false, Some, refl, ap, sym, ◌∙◌, subst, inl, inr, arith}
 use Rattle.std.specs.Prelude.{◌==◌, ◌&&◌, ◌||◌, not, nat_lt, if◌then◌else◌}
 use Rattle.std.specs.List.{list_any}
-use Rattle.std.proofs.lemmas.Bool.{cases_lt, cases_eq, false≢true}
+use Rattle.std.proofs.lemmas.Bool.{cases_lt, cases_eq, false≢true, eqb-true, and_parts, or_cases, not-true}
 use Rattle.std.proofs.lemmas.Bool.Decides.{nat_tests}
 use Rattle.std.proofs.lemmas.List.{get_or_default, get_or_past, get_or_append_left, get_or-set_same, get_or-set_other}
+use Rattle.std.proofs.lemmas.Option.{same_Some}
 use Rattle.mc_base.specs.declared.ids.AtomId.{AtomId}
-use Rattle.mc_mol.specs.declared.parts.Bond.{Bond}
 use Rattle.mc_mol.specs.declared.parts.HalfEdge.{HalfEdge}
-use Rattle.mc_mol.specs.Molecule.{Molecule, joins, are_joined}
+use Rattle.mc_mol.specs.Molecule.{Molecule, are_joined}
 use Rattle.mc_mol.specs.HalfEdges.{half_edges}
 use Rattle.mc_mol.proofs.Lists.{length-slice_set}
 use Rattle.mc_mol.proofs.Halves.{are_joined-half_edges}
-use Rattle.smi_mean.specs.Order.{graph_of, Step, steps, unwritten_neighbour, order, place, parents}
+use Rattle.mc_mol.proofs.Apart.{are_joined_turned}
+use Rattle.smi_mean.specs.Order.{graph_of, Step, steps, unwritten_neighbour, order, rank, parents}
 use Rattle.smi_mean.specs.Written.{at, has_ring}
 use Rattle.smi_write.specs.Seen.{leads_back, mark_all, mark_one}
 use Rattle.smi_write.specs.Progress.{HoldsSteps, HoldsMarks}
-use Rattle.smi_write.proofs.Least.{and_true, or_true, not_is, some_same, same_of}
-use Rattle.smi_write.proofs.Walk.{place_le, length_parents}
-use Rattle.smi_write.proofs.Partners.{at_below, place_of_at}
+use Rattle.smi_write.proofs.Walk.{rank_le, length_parents}
+use Rattle.smi_write.proofs.Partners.{at_below, rank_of_at}
 use Rattle.smi_write.proofs.Advance.{length_list, few_steps, top_is, goes_on}
-use Rattle.smi_write.proofs.Simple.{joins_swap}
 
 -- What is marked stays so, and each ring bond's end is marked
 
@@ -33,23 +32,23 @@ keeps_one opens q j h = elim (cases_eq j q) [
   | inr ne ↦ get_or-set_other opens q j true false ne ∙ h
 ]
 
-pub mark_keeps : (k p : ℕ) (places : List ℕ) (opens : List Bool) (halves : List HalfEdge) (j : ℕ) → get_or opens j false ≡ true → get_or (mark_all k p places opens halves) j false ≡ true
-mark_keeps k p places opens [] j h = h
-mark_keeps k p places opens (half ∷ halves) j h = mark_keeps k p places (mark_one k p places opens half) halves j (by_test (leads_back k p (get_or places half.to.0 0)))
+pub mark_keeps : (k p : ℕ) (ranks : List ℕ) (opens : List Bool) (halves : List HalfEdge) (j : ℕ) → get_or opens j false ≡ true → get_or (mark_all k p ranks opens halves) j false ≡ true
+mark_keeps k p ranks opens [] j h = h
+mark_keeps k p ranks opens (half ∷ halves) j h = mark_keeps k p ranks (mark_one k p ranks opens half) halves j (by_test (leads_back k p (get_or ranks half.to.0 0)))
   where
-    by_test : (t : Bool) → get_or (if t then slice_set opens (get_or places half.to.0 0 - 1) true else opens) j false ≡ true
-    by_test true = keeps_one opens (get_or places half.to.0 0 - 1) j h
+    by_test : (t : Bool) → get_or (if t then slice_set opens (get_or ranks half.to.0 0 - 1) true else opens) j false ≡ true
+    by_test true = keeps_one opens (get_or ranks half.to.0 0 - 1) j h
     by_test false = h
 
 length_one : (t : Bool) (opens : List Bool) (q : ℕ) → length (if t then slice_set opens q true else opens) ≡ length opens
 length_one true opens q = length-slice_set opens q true
 length_one false opens q = refl
 
-pub length_marks : (k p : ℕ) (places : List ℕ) (opens : List Bool) (halves : List HalfEdge) → length (mark_all k p places opens halves) ≡ length opens
-length_marks k p places opens [] = refl
-length_marks k p places opens (half ∷ halves) = length_marks k p places (mark_one k p places opens half) halves ∙ length_one (leads_back k p (get_or places half.to.0 0)) opens (get_or places half.to.0 0 - 1)
+pub length_marks : (k p : ℕ) (ranks : List ℕ) (opens : List Bool) (halves : List HalfEdge) → length (mark_all k p ranks opens halves) ≡ length opens
+length_marks k p ranks opens [] = refl
+length_marks k p ranks opens (half ∷ halves) = length_marks k p ranks (mark_one k p ranks opens half) halves ∙ length_one (leads_back k p (get_or ranks half.to.0 0)) opens (get_or ranks half.to.0 0 - 1)
 
--- the two places of a ring bond that leads back
+-- the two ranks of a ring bond that leads back
 pub record Back (k p at : ℕ) : Type 0 where
   pub some : 0 < at
   pub low : at < k
@@ -57,36 +56,36 @@ pub record Back (k p at : ℕ) : Type 0 where
 
 pub back_at : (k p at : ℕ) → leads_back k p at ≡ true → Back k p at
 back_at k p at h =
-    let t = and_true (nat_lt 0 at) (nat_lt at k && not (at == p)) h in
-    let u = and_true (nat_lt at k) (not (at == p)) t.1 in
+    let t = and_parts (nat_lt 0 at) (nat_lt at k && not (at == p)) h in
+    let u = and_parts (nat_lt at k) (not (at == p)) t.1 in
     let t0 = t.0 in
     let u0 = u.0 in
-    record { some = grind (arith, nat_tests); low = grind (arith, nat_tests); other = not_is (at == p) u.1 }
+    record { some = grind (arith, nat_tests); low = grind (arith, nat_tests); other = not-true (at == p) u.1 }
 
-mark_sets : (k p : ℕ) (places : List ℕ) (opens : List Bool) (halves : List HalfEdge) (i : ℕ) (half : HalfEdge) → k ≤ length opens → slice_get halves i ≡ Some half
-    → leads_back k p (get_or places half.to.0 0) ≡ true → get_or (mark_all k p places opens halves) (get_or places half.to.0 0 - 1) false ≡ true
-mark_sets k p places opens [] i half le found back = cc
-mark_sets k p places opens (h ∷ halves) zero half le found back =
-    let same : h ≡ half = some_same h half found in
-    let here : leads_back k p (get_or places h.to.0 0) ≡ true = subst (λ (x : HalfEdge). leads_back k p (get_or places x.to.0 0) ≡ true) (sym same) back in
-    let b = back_at k p (get_or places h.to.0 0) here in
+mark_sets : (k p : ℕ) (ranks : List ℕ) (opens : List Bool) (halves : List HalfEdge) (i : ℕ) (half : HalfEdge) → k ≤ length opens → slice_get halves i ≡ Some half
+    → leads_back k p (get_or ranks half.to.0 0) ≡ true → get_or (mark_all k p ranks opens halves) (get_or ranks half.to.0 0 - 1) false ≡ true
+mark_sets k p ranks opens [] i half le found back = cc
+mark_sets k p ranks opens (h ∷ halves) zero half le found back =
+    let same : h ≡ half = same_Some h half found in
+    let here : leads_back k p (get_or ranks h.to.0 0) ≡ true = subst (λ (x : HalfEdge). leads_back k p (get_or ranks x.to.0 0) ≡ true) (sym same) back in
+    let b = back_at k p (get_or ranks h.to.0 0) here in
     let some = b.some in
     let low = b.low in
-    subst (λ (x : HalfEdge). get_or (mark_all k p places opens (h ∷ halves)) (get_or places x.to.0 0 - 1) false ≡ true) same
-    (mark_keeps k p places (mark_one k p places opens h) halves (get_or places h.to.0 0 - 1) (rw here (get_or-set_same opens (get_or places h.to.0 0 - 1) true false (omega arith))))
-mark_sets k p places opens (h ∷ halves) (suc i) half le found back =
-    let len = length_one (leads_back k p (get_or places h.to.0 0)) opens (get_or places h.to.0 0 - 1) in
-    mark_sets k p places (mark_one k p places opens h) halves i half (omega arith) found back
+    subst (λ (x : HalfEdge). get_or (mark_all k p ranks opens (h ∷ halves)) (get_or ranks x.to.0 0 - 1) false ≡ true) same
+    (mark_keeps k p ranks (mark_one k p ranks opens h) halves (get_or ranks h.to.0 0 - 1) (rw here (get_or-set_same opens (get_or ranks h.to.0 0 - 1) true false (omega arith))))
+mark_sets k p ranks opens (h ∷ halves) (suc i) half le found back =
+    let len = length_one (leads_back k p (get_or ranks h.to.0 0)) opens (get_or ranks h.to.0 0 - 1) in
+    mark_sets k p ranks (mark_one k p ranks opens h) halves i half (omega arith) found back
 
 -- where nothing leads back, nothing is marked
-pub none_marked : (k p : ℕ) (places : List ℕ) (opens : List Bool) (halves : List HalfEdge) → false ≡ list_any (λ half. leads_back k p (get_or places half.to.0 0)) halves
-    → opens ≡ mark_all k p places opens halves
-none_marked k p places opens [] h = refl
-none_marked k p places opens (half ∷ halves) h = by_test (leads_back k p (get_or places half.to.0 0)) h (λ e. none_marked k p places opens halves e)
+pub none_marked : (k p : ℕ) (ranks : List ℕ) (opens : List Bool) (halves : List HalfEdge) → false ≡ list_any (λ half. leads_back k p (get_or ranks half.to.0 0)) halves
+    → opens ≡ mark_all k p ranks opens halves
+none_marked k p ranks opens [] h = refl
+none_marked k p ranks opens (half ∷ halves) h = by_test (leads_back k p (get_or ranks half.to.0 0)) h (λ e. none_marked k p ranks opens halves e)
   where
-    by_test : (t : Bool) → false ≡ (t || list_any (λ half. leads_back k p (get_or places half.to.0 0)) halves)
-        → (false ≡ list_any (λ half. leads_back k p (get_or places half.to.0 0)) halves → opens ≡ mark_all k p places opens halves)
-        → opens ≡ mark_all k p places (if t then slice_set opens (get_or places half.to.0 0 - 1) true else opens) halves
+    by_test : (t : Bool) → false ≡ (t || list_any (λ half. leads_back k p (get_or ranks half.to.0 0)) halves)
+        → (false ≡ list_any (λ half. leads_back k p (get_or ranks half.to.0 0)) halves → opens ≡ mark_all k p ranks opens halves)
+        → opens ≡ mark_all k p ranks (if t then slice_set opens (get_or ranks half.to.0 0 - 1) true else opens) halves
     by_test true e more = absurd (false≢true e)
     by_test false e more = more e
 
@@ -119,7 +118,7 @@ marks_written m before al pl pl' cl cl' st w p opens steps h e f below = record 
   marked = λ v i half less some free at back.
       let ne : v ≢ w = λ same. free (ap (λ (x : ℕ). x ∷ []) (sym same)) in
       let stays = other v ne in
-      let le = place_low v less in
+      let le = rank_low v less in
       let lenp = length_pl in
       let is_parent : get_or pl' (get_or cl' v 0 - 1) 0 ≡ get_or pl (get_or cl v 0 - 1) 0 =
       ap (λ (x : ℕ). get_or pl' (x - 1) 0) stays ∙ ap (λ (x : List ℕ). get_or x (get_or cl v 0 - 1) 0) e ∙ get_or_append_left pl (p ∷ []) 0 (get_or cl v 0 - 1) (omega arith) in
@@ -142,13 +141,13 @@ marks_written m before al pl pl' cl cl' st w p opens steps h e f below = record 
     length_pl : length pl ≡ length al
     length_pl = ap length steps.parents_are ∙ length_parents before ∙ sym (length_list (graph_of m) before al pl cl st steps)
 
-    place_low : (v : ℕ) → v < length m.atoms → get_or cl v 0 ≤ length al
-    place_low v less =
-        let p = steps.places_are v less in
-        let le = place_le before v in
+    rank_low : (v : ℕ) → v < length m.atoms → get_or cl v 0 ≤ length al
+    rank_low v less =
+        let p = steps.ranks_are v less in
+        let le = rank_le before v in
         let len = length_list (graph_of m) before al pl cl st steps in omega arith
 
--- the place of the latest atom
+-- the rank of the latest atom
 pub record IsPlaced (m : Molecule) (pl cl : List ℕ) (u k : ℕ) : Type 0 where
   pub within : u < length cl
   pub is : k ≡ get_or cl u 0
@@ -156,16 +155,16 @@ pub record IsPlaced (m : Molecule) (pl cl : List ℕ) (u k : ℕ) : Type 0 where
   pub parent : k - 1 < length pl
   pub low : k ≤ length m.atoms
 
-pub is_placed : (m : Molecule) (al : List AtomId) (pl cl st : List ℕ) (u k : ℕ) → HoldsSteps (graph_of m) (steps (graph_of m) (length al)) al pl cl (st ++ u ∷ []) → k ≡ get_or cl u k
+pub is_ranked : (m : Molecule) (al : List AtomId) (pl cl st : List ℕ) (u k : ℕ) → HoldsSteps (graph_of m) (steps (graph_of m) (length al)) al pl cl (st ++ u ∷ []) → k ≡ get_or cl u k
     → IsPlaced m pl cl u k
-is_placed m al pl cl st u k h e =
+is_ranked m al pl cl st u k h e =
     let top = top_is m (length al) al pl cl st u h in
     let below = top.below in
     let count = h.count in
     let is : k ≡ get_or cl u 0 = e ∙ get_or_default cl u k 0 (omega arith) in
-    let at = h.places_are u below in
+    let at = h.ranks_are u below in
     let written = top.written in
-    let le = place_le (steps (graph_of m) (length al)) u in
+    let le = rank_le (steps (graph_of m) (length al)) u in
     let few = few_steps (graph_of m) (length al) in
     let lenp : length pl ≡ length (steps (graph_of m) (length al)) = ap length h.parents_are ∙ length_parents (steps (graph_of m) (length al)) in
     record { within = omega arith; is = is; some = omega arith; parent = omega arith; low = omega arith }
@@ -182,10 +181,6 @@ marks_on m al pl pl' cl cl' st u w p opens opens' steps h found e f same =
 
 -- At the end
 
-joined_swap : (bonds : List Bond) (u v : ℕ) → are_joined bonds u v ≡ are_joined bonds v u
-joined_swap [] u v = refl
-joined_swap (b ∷ bonds) u v = ap (λ (x : Bool). x || are_joined bonds u v) (joins_swap b u v) ∙ ap (λ (x : Bool). joins b v u || x) (joined_swap bonds u v)
-
 -- a half-edge that leads to an atom
 record LeadsTo (halves : List HalfEdge) (v : ℕ) : Type 0 where
   pub i : ℕ
@@ -195,21 +190,21 @@ record LeadsTo (halves : List HalfEdge) (v : ℕ) : Type 0 where
 
 leads_to : (halves : List HalfEdge) (v : ℕ) → list_any (λ half. half.to.0 == v) halves ≡ true → LeadsTo halves v
 leads_to [] v h = absurd (false≢true h)
-leads_to (half ∷ halves) v h = elim (or_true (half.to.0 == v) (list_any (λ half. half.to.0 == v) halves) h) [
-  | inl here ↦ record { i = 0; half = half; found = refl; to = same_of half.to.0 v here }
+leads_to (half ∷ halves) v h = elim (or_cases (half.to.0 == v) (list_any (λ half. half.to.0 == v) halves) h) [
+  | inl here ↦ record { i = 0; half = half; found = refl; to = eqb-true half.to.0 v here }
   | inr later ↦ let r = leads_to halves v later in record { i = suc r.i; half = r.half; found = r.found; to = r.to }
 ]
 
-pub opens_at : (m : Molecule) (pl cl : List ℕ) (opens : List Bool) → HoldsMarks m pl cl [] opens → pl ≡ parents (order (graph_of m)) → ((u : ℕ) → u < length m.atoms → get_or cl u 0 ≡ place (order (graph_of m)) u)
+pub opens_at : (m : Molecule) (pl cl : List ℕ) (opens : List Bool) → HoldsMarks m pl cl [] opens → pl ≡ parents (order (graph_of m)) → ((u : ℕ) → u < length m.atoms → get_or cl u 0 ≡ rank (order (graph_of m)) u)
     → (j l : ℕ) → j < l → l < length m.atoms → has_ring (graph_of m) j l ≡ true → get_or opens j false ≡ true
-opens_at m pl cl opens h is_parents places j l less below ring =
-    let t = and_true (are_joined m.bonds (at (graph_of m) j) (at (graph_of m) l)) (not (get_or (parents (order (graph_of m))) l 0 == suc j)) ring in
+opens_at m pl cl opens h is_parents ranks j l less below ring =
+    let t = and_parts (are_joined m.bonds (at (graph_of m) j) (at (graph_of m) l)) (not (get_or (parents (order (graph_of m))) l 0 == suc j)) ring in
     let in_l = at_below m l below in
     let in_j = at_below m j (omega arith) in
-    let is_l : get_or cl (at (graph_of m) l) 0 ≡ suc l = places (at (graph_of m) l) in_l ∙ place_of_at m l below in
-    let is_j : get_or cl (at (graph_of m) j) 0 ≡ suc j = places (at (graph_of m) j) in_j ∙ place_of_at m j (omega arith) in
+    let is_l : get_or cl (at (graph_of m) l) 0 ≡ suc l = ranks (at (graph_of m) l) in_l ∙ rank_of_at m l below in
+    let is_j : get_or cl (at (graph_of m) j) 0 ≡ suc j = ranks (at (graph_of m) j) in_j ∙ rank_of_at m j (omega arith) in
     let ne : at (graph_of m) l ≢ at (graph_of m) j = λ e. let same = ap (λ (x : ℕ). get_or cl x 0) e in omega arith in
-    let joined : are_joined m.bonds (at (graph_of m) l) (at (graph_of m) j) ≡ true = joined_swap m.bonds (at (graph_of m) l) (at (graph_of m) j) ∙ t.0 in
+    let joined : are_joined m.bonds (at (graph_of m) l) (at (graph_of m) j) ≡ true = are_joined_turned m.bonds (at (graph_of m) l) (at (graph_of m) j) ∙ t.0 in
     let half = leads_to (half_edges m (at (graph_of m) l)) (at (graph_of m) j) (are_joined-half_edges m (at (graph_of m) l) (at (graph_of m) j) ne ∙ joined) in
     let at_half : get_or cl half.half.to.0 0 ≡ suc j = ap (λ (x : ℕ). get_or cl x 0) half.to ∙ is_j in
     let marked = h.marked (at (graph_of m) l) half.i half.half in_l (omega arith) (λ e. cc) half.found (back half.half is_l at_half t.1) in
@@ -225,7 +220,7 @@ opens_at m pl cl opens h is_parents places j l less below ring =
     back : (half : HalfEdge) → get_or cl (at (graph_of m) l) 0 ≡ suc l → get_or cl half.to.0 0 ≡ suc j → not (get_or (parents (order (graph_of m))) l 0 == suc j) ≡ true
         → leads_back (get_or cl (at (graph_of m) l) 0) (get_or pl (get_or cl (at (graph_of m) l) 0 - 1) 0) (get_or cl half.to.0 0) ≡ true
     back half e f other =
-        let apart = not_is (get_or (parents (order (graph_of m))) l 0 == suc j) other in
+        let apart = not-true (get_or (parents (order (graph_of m))) l 0 == suc j) other in
         let is_p : get_or pl (suc l - 1) 0 ≡ get_or (parents (order (graph_of m))) l 0 = let one : suc l - 1 ≡ l = omega arith in
         ap (λ (x : ℕ). get_or pl x 0) one ∙ ap (λ (x : List ℕ). get_or x l 0) is_parents in
         rw (e, f, is_p) (tests (get_or (parents (order (graph_of m))) l 0) apart)

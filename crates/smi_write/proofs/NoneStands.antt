@@ -1,33 +1,32 @@
 -- No kind stands in a text that is read as a molecule within the limits.
 use Rattle.std.proofs.Common.{arith, ◌≡◌, ◌<◌, ◌≤◌, ◌+◌, ℕ, zero, suc, Bool, true, false, List, [], ◌∷◌, length, Option, Some, None, refl, sym, ap, ◌∙◌, inl, inr}
-use Rattle.std.specs.Prelude.{slice_get, nat_abs, nat_lt}
-use Rattle.std.proofs.lemmas.Bool.{cases_lt, false≢true}
-use Rattle.std.proofs.lemmas.Bool.Decides.{nat_tests}
+use Rattle.std.specs.Prelude.{slice_get, nat_abs}
+use Rattle.std.proofs.lemmas.Bool.{cases_lt, both_ways, le-ltb}
 use Rattle.std.proofs.lemmas.Option.{slice_get_past, slice_get_within}
 use Rattle.mc_base.specs.declared.kind.Kind.{Kind}
-use Rattle.mc_base.specs.declared.kind.Kind.TheVariants.{NotBuilt, BadToken, Wildcard, OtherChirality, BadOrder, ParenOpen, RingOpen, RingClash, RingPair, LimitAtoms, LimitBonds, LimitRings, LimitIsotope, LimitClass, LimitCharge, LimitValence, HydrogenOnHydrogen}
+use Rattle.mc_base.specs.declared.kind.Kind.TheVariants.{NotBuilt, BadToken, Wildcard, OtherChirality, BadOrder, ParenOpen, RingOpen, RingClash, RingPair, AromaticBond, LimitAtoms, LimitBonds, LimitRings, LimitIsotope, LimitClass, LimitCharge, LimitValence, HydrogenOnHydrogen}
 use Rattle.mc_mol.specs.declared.parts.Atom.{Atom}
 use Rattle.mc_mol.specs.declared.parts.Bond as bond
 use Rattle.mc_mol.specs.Molecule.{Molecule, bond_sum}
 use Rattle.mc_mol.specs.WellFormed.{IsMolecule}
+use Rattle.mc_mol.specs.Limits.{overvalent_at, hydrogen_on_hydrogen_at, is_hydrogen_with_more, is_over, IsAtomWithinLimits}
+use Rattle.mc_mol.specs.declared.limits.TheConstants.{ATOM_LIMIT, BOND_LIMIT, RING_LIMIT, ISOTOPE_LIMIT, CLASS_LIMIT, CHARGE_LIMIT}
 use Rattle.smi_lex.specs.Tokens.{unread}
 use Rattle.smi_graph.specs.declared.skel_atom.SkelAtom.{SkelAtom}
 use Rattle.smi_graph.specs.Order.{unclosed_at}
 use Rattle.smi_graph.specs.RingRules.{clash_at, pair_again_at}
-use Rattle.smi_graph.specs.Rules.{atoms_in, bonds_in, roles_in, fails, has_high_isotope, has_high_class, has_high_charge}
+use Rattle.smi_graph.specs.Candidates.{is_lower}
+use Rattle.smi_graph.specs.Rules.{atoms_in, bonds_in, text_bonds_in, roles_in, fails, has_high_isotope, has_high_class, has_high_charge}
 use Rattle.smi_graph.proofs.TokenFaults.{unclosed_past, clash_past, pair_past}
+use Rattle.smi_graph.proofs.Plain.{plain_bonds, upper_atoms}
+use Rattle.smi_mean.proofs.Needing.{overvalent_same, upper_needs_none}
+use Rattle.smi_mean.specs.Needs.{needs}
 use Rattle.smi_mean.specs.Meaning.{atoms_with, meaning, meant_atom}
 use Rattle.smi_mean.specs.Order.{graph_of}
-use Rattle.smi_mean.specs.Rules.{StandsAt, hydrogen_on_hydrogen_at, is_hydrogen_with_more, is_over, overvalent_at}
-use Rattle.smi_mean.specs.Sound.{IsSound, IsWithinLimits}
+use Rattle.smi_mean.specs.Rules.{StandsAt}
+use Rattle.smi_mean.specs.Sound.{IsSound}
 use Rattle.smi_mean.specs.Written.{at}
 use Rattle.smi_write.proofs.Structured.{IsRead, length_with}
-
-not_both : (b : Bool) → b ≡ false → b ≡ true → ⊥
-not_both b fails holds = false≢true (sym fails ∙ holds)
-
-not_above : (n k : ℕ) → n ≤ k → nat_lt k n ≡ false
-not_above n k few = grind (arith, nat_tests)
 
 -- an atom of the skeleton, and the one that it means
 atom_with : (bonds : List bond.Bond) (j : ℕ) (atoms : List SkelAtom) (k : ℕ) (atom : SkelAtom) → slice_get atoms k ≡ Some atom
@@ -41,15 +40,15 @@ atom_with bonds j (a ∷ atoms) (suc k) atom is = atom_with bonds (j + 1) atoms 
 
 -- each atom of the skeleton is within the limits
 within : (m : Molecule) (text : List ℕ) → IsSound m → IsRead m text → (k : ℕ) (atom : SkelAtom) → slice_get (atoms_in text) k ≡ Some atom
-    → (sum : ℕ) × IsWithinLimits (meant_atom atom sum)
+    → (sum : ℕ) × IsAtomWithinLimits (meant_atom atom sum)
 within m text sound read k atom is =
     let inside = slice_get_within (atoms_in text) k atom is in
     let count = read.count in
     let meant = atom_with (bonds_in text) 0 (atoms_in text) k atom is in
-    (meant.0, sound.atoms (at (graph_of m) k) (meant_atom atom meant.0) (sym (read.same_atoms k (omega arith)) ∙ meant.1))
+    (meant.0, sound.within.atoms (at (graph_of m) k) (meant_atom atom meant.0) (sym (read.same_atoms k (omega arith)) ∙ meant.1))
 
 no_atom_fails : (m : Molecule) (text : List ℕ) → IsSound m → IsRead m text → (p : SkelAtom → Bool)
-    → ((atom : SkelAtom) (sum : ℕ) → IsWithinLimits (meant_atom atom sum) → p atom ≡ false) → (k : ℕ) → fails p (slice_get (atoms_in text) k) ≡ false
+    → ((atom : SkelAtom) (sum : ℕ) → IsAtomWithinLimits (meant_atom atom sum) → p atom ≡ false) → (k : ℕ) → fails p (slice_get (atoms_in text) k) ≡ false
 no_atom_fails m text sound read p passes k = by_atom (slice_get (atoms_in text) k) refl
   where
     by_atom : (o : Option SkelAtom) → slice_get (atoms_in text) k ≡ o → fails p o ≡ false
@@ -69,15 +68,19 @@ no_valence m text sound read k = elim (cases_lt k (length m.atoms)) [
   | inl less ↦
       ap (λ (o : Option Atom). is_over o (bond_sum (bonds_in text) k)) (read.same_atoms k less)
       ∙ ap (is_over (slice_get m.atoms (at (graph_of m) k))) (read.reads.sums k less)
-      ∙ sound.valences (at (graph_of m) k)
+      ∙ sound.within.valences (at (graph_of m) k)
   | inr past ↦ ap (λ (o : Option Atom). is_over o (bond_sum (bonds_in text) k)) (none_past m text read k (omega arith))
 ]
 
 no_hydrogen : (m : Molecule) (text : List ℕ) → IsSound m → IsRead m text → (k : ℕ) → hydrogen_on_hydrogen_at (meaning text) k ≡ false
 no_hydrogen m text sound read k = elim (cases_lt k (length m.atoms)) [
-  | inl less ↦ ap is_hydrogen_with_more (read.same_atoms k less) ∙ sound.hydrogens (at (graph_of m) k)
+  | inl less ↦ ap is_hydrogen_with_more (read.same_atoms k less) ∙ sound.within.hydrogens (at (graph_of m) k)
   | inr past ↦ ap is_hydrogen_with_more (none_past m text read k (omega arith))
 ]
+
+-- an atom in upper case needs no double bond
+pub no_need : (text : List ℕ) → ((k : ℕ) → is_lower (atoms_in text) k ≡ false) → (k : ℕ) → needs (atoms_in text) (bonds_in text) k ≡ false
+no_need text upper k = upper_needs_none (atoms_in text) (bonds_in text) k (upper k)
 
 no_rest : (m : Molecule) (text : List ℕ) → IsRead m text → 0 < length (unread text) → ⊥
 no_rest m text read some = let none = ap (λ (t : List ℕ). length t) read.nothing_left in omega arith
@@ -88,29 +91,31 @@ above_limit n k most same few more = omega arith
 -- a test that fails at each token and behind them
 nowhere : (p : ℕ → Bool) (n i : ℕ) → ((i : ℕ) → n ≤ i → p i ≡ false) → ((i : ℕ) → i ≤ n → p i ≡ false) → p i ≡ true → ⊥
 nowhere p n i past fails holds = elim (cases_lt i n) [
-  | inl less ↦ not_both (p i) (fails i (omega arith)) holds
-  | inr more ↦ not_both (p i) (past i (omega arith)) holds
+  | inl less ↦ both_ways (p i) (fails i (omega arith)) holds
+  | inr more ↦ both_ways (p i) (past i (omega arith)) holds
 ]
 
 pub none_stands : (m : Molecule) (text : List ℕ) → IsMolecule m → IsSound m → IsRead m text → (kind : Kind) (place : ℕ) → StandsAt text kind place → ⊥
-none_stands m text is sound read NotBuilt place h = not_both _ h.2 read.built
+none_stands m text is sound read NotBuilt place (inl h) = both_ways _ h.2 read.built
+none_stands m text is sound read NotBuilt place (inr h) = both_ways _ (no_need text (upper_atoms text read.plain) h.1.atom) h.1.needing
 none_stands m text is sound read BadToken place h = no_rest m text read h.0
 none_stands m text is sound read Wildcard place h = no_rest m text read h.0
 none_stands m text is sound read OtherChirality place h = no_rest m text read h.0
-none_stands m text is sound read BadOrder place (i, (inside, bad), there) = not_both _ (read.reads.placed i inside) bad
+none_stands m text is sound read BadOrder place (i, (inside, bad), there) = both_ways _ (read.reads.placed i inside) bad
 none_stands m text is sound read ParenOpen place (i, bad, there) = nowhere (unclosed_at (roles_in text)) (length (roles_in text)) i (unclosed_past (roles_in text)) read.reads.closed bad
 none_stands m text is sound read RingOpen place (i, (n, other, stays, there), at) = let shut = read.reads.rings n in cc
 none_stands m text is sound read RingClash place (i, bad, there) = nowhere (clash_at (roles_in text)) (length (roles_in text)) i (clash_past (roles_in text)) read.reads.clashes bad
 none_stands m text is sound read RingPair place (i, bad, there) = nowhere (pair_again_at (roles_in text)) (length (roles_in text)) i (pair_past (roles_in text)) read.reads.pairs bad
-none_stands m text is sound read LimitAtoms place h = above_limit (length (atoms_in text)) (length m.atoms) 999 read.count is.few_atoms h.1
-none_stands m text is sound read LimitBonds place h = above_limit (length (bonds_in text)) (length m.bonds) 999 read.reads.count is.few_bonds h.1
-none_stands m text is sound read LimitRings place h = above_limit _ _ 99 refl read.few_rings h.1
+none_stands m text is sound read AromaticBond place (k, there, bad) = both_ways _ (plain_bonds text (atoms_in text) (text_bonds_in text) refl read.plain k) bad
+none_stands m text is sound read LimitAtoms place h = above_limit (length (atoms_in text)) (length m.atoms) ATOM_LIMIT read.count is.few_atoms h.1
+none_stands m text is sound read LimitBonds place h = above_limit (length (bonds_in text)) (length m.bonds) BOND_LIMIT read.reads.count is.few_bonds h.1
+none_stands m text is sound read LimitRings place h = above_limit _ _ RING_LIMIT refl read.few_rings h.1
 none_stands m text is sound read LimitIsotope place (k, there, bad) =
-    not_both _ (no_atom_fails m text sound read has_high_isotope (λ atom sum limits. not_above atom.isotope 999 limits.isotope) k) bad
+    both_ways _ (no_atom_fails m text sound read has_high_isotope (λ atom sum limits. le-ltb ISOTOPE_LIMIT atom.isotope limits.isotope) k) bad
 none_stands m text is sound read LimitClass place (k, there, bad) =
-    not_both _ (no_atom_fails m text sound read has_high_class (λ atom sum limits. not_above atom.class 999 limits.class) k) bad
+    both_ways _ (no_atom_fails m text sound read has_high_class (λ atom sum limits. le-ltb CLASS_LIMIT atom.class limits.class) k) bad
 none_stands m text is sound read LimitCharge place (k, there, bad) =
-    not_both _ (no_atom_fails m text sound read has_high_charge (λ atom sum limits. not_above (nat_abs atom.charge) 15 limits.charge) k) bad
-none_stands m text is sound read LimitValence place (k, there, bad) = not_both _ (no_valence m text sound read k) bad
-none_stands m text is sound read HydrogenOnHydrogen place (k, there, bad) = not_both _ (no_hydrogen m text sound read k) bad
+    both_ways _ (no_atom_fails m text sound read has_high_charge (λ atom sum limits. le-ltb CHARGE_LIMIT (nat_abs atom.charge) limits.charge) k) bad
+none_stands m text is sound read LimitValence place (k, there, bad) = both_ways _ (overvalent_same (atoms_in text) (bonds_in text) k ∙ no_valence m text sound read k) bad
+none_stands m text is sound read HydrogenOnHydrogen place (k, there, bad) = both_ways _ (no_hydrogen m text sound read k) bad
 none_stands m text is sound read _ place h = h

@@ -1,11 +1,12 @@
 -- Open ring numbers as a look-up by number.
 use Rattle.std.proofs.Common.{◌≡◌, ◌≢◌, ℕ, zero, suc, ◌+◌, ◌≤◌, ◌<◌, List, [], ◌∷◌, length, Bool, true, false, Option, Some, None, refl, ap, sym, ◌∙◌, subst, inl, inr, arith}
 use Rattle.std.specs.Prelude.{◌==◌, ◌⊎◌, not, nat_le, if◌then◌else◌}
-use Rattle.std.proofs.lemmas.Bool.{cases_eq, false≢true}
+use Rattle.std.proofs.lemmas.Bool.{cases_eq, false≢true, ne_eqb, or_parts, not-true, not-false}
 use Rattle.std.proofs.lemmas.List.{length-map}
+use Rattle.mc_mol.proofs.Halves.{same_test}
 use Rattle.smi_mean.specs.Order.{least}
 use Rattle.smi_mean.specs.RingNumbers.{Pair, has, value, numbers, free_number, ending, kept, insert, sorted}
-use Rattle.smi_write.proofs.Least.{test_other, test_same, or_false, not_is, not_false, least_all, least_some}
+use Rattle.smi_write.proofs.Least.{least_all, least_some}
 use Rattle.smi_write.proofs.RingLaw.{Opening}
 use Rattle.smi_write.proofs.Counting.{count, count_none, count_all, count_more}
 
@@ -27,10 +28,10 @@ Distinct [] = Unit {0}
 Distinct (p ∷ ps) = (opener p.number ps ≡ None) × Distinct ps
 
 pub opener_here : (p : Pair) (ps : List Pair) (m : ℕ) → p.number ≡ m → opener m (p ∷ ps) ≡ Some (as_opening p)
-opener_here p ps m e = let t : (p.number == m) ≡ true = ap (λ (x : ℕ). x == m) e ∙ test_same m in rw t refl
+opener_here p ps m e = let t : (p.number == m) ≡ true = ap (λ (x : ℕ). x == m) e ∙ same_test m in rw t refl
 
 pub opener_other : (p : Pair) (ps : List Pair) (m : ℕ) → p.number ≢ m → opener m (p ∷ ps) ≡ opener m ps
-opener_other p ps m ne = rw (test_other p.number m ne) refl
+opener_other p ps m ne = rw (ne_eqb p.number m ne) refl
 
 none_other : (p : Pair) (ps : List Pair) (m : ℕ) → opener m (p ∷ ps) ≡ None → (p.number ≢ m) × (opener m ps ≡ None)
 none_other p ps m h = elim (cases_eq p.number m) [
@@ -86,8 +87,8 @@ kept_opener k m (p ∷ ps) d = by_test (p.partner == k) (cases_eq p.number m) (k
     by_test false (inl e) h =
         let none : opener m ps ≡ None = subst (λ (x : ℕ). opener x ps ≡ None) e d.0 in
         opener_here p (kept k ps) m e ∙ sym (opener_here p ps m e) ∙ sym (ap (λ (o : Option Opening). minus o (opener m (p ∷ ps))) (ending_none k m ps none))
-    by_test true (inr ne) h = rw (test_other p.number m ne) h
-    by_test false (inr ne) h = rw (test_other p.number m ne) h
+    by_test true (inr ne) h = rw (ne_eqb p.number m ne) h
+    by_test false (inr ne) h = rw (ne_eqb p.number m ne) h
 
 pub ending_opener : (k m : ℕ) (a : Opening) (ps : List Pair) → Distinct ps → opener m (ending k ps) ≡ Some a → opener m ps ≡ Some a
 ending_opener k m a [] d is = is
@@ -110,7 +111,7 @@ insert_opener p (q ∷ qs) m h = let r = none_other q qs p.number h in by_test (
         → opener m (if b then p ∷ q ∷ qs else q ∷ insert p qs) ≡ opener m (p ∷ q ∷ qs)
     by_test true c ne h = refl
     by_test false (inl e) ne h = opener_here q (insert p qs) m e ∙ sym (opener_here q qs m e) ∙ sym (opener_other p (q ∷ qs) m (λ e'. ne (e ∙ sym e')))
-    by_test false (inr o) ne h = opener_other q (insert p qs) m o ∙ h ∙ rw (test_other q.number m o) refl
+    by_test false (inr o) ne h = opener_other q (insert p qs) m o ∙ h ∙ rw (ne_eqb q.number m o) refl
 
 pub insert_distinct : (p : Pair) (qs : List Pair) → opener p.number qs ≡ None → Distinct qs → Distinct (insert p qs)
 insert_distinct p [] h d = (refl, tt)
@@ -135,12 +136,12 @@ sorted_distinct (p ∷ ps) d = insert_distinct p (sorted ps) (sorted_opener ps p
 count_has : (xs : List ℕ) (n : ℕ) → count (λ v. has v xs) n ≤ length xs
 count_has [] n = let c = count_none (λ v. has v []) n (λ v less. refl) in omega arith
 count_has (x ∷ xs) n =
-    let c = count_more (λ v. has v xs) (λ v. has v (x ∷ xs)) x n (λ v ne. rw (test_other x v (λ e. ne (sym e))) refl) (rw (test_same x) refl) in
+    let c = count_more (λ v. has v xs) (λ v. has v (x ∷ xs)) x n (λ v ne. rw (ne_eqb x v (λ e. ne (sym e))) refl) (rw (same_test x) refl) in
     let r = count_has xs n in omega arith
 
 has_none : (ps : List Pair) (m : ℕ) → has m (numbers ps) ≡ false → opener m ps ≡ None
 has_none [] m h = refl
-has_none (p ∷ ps) m h = let r = or_false (p.number == m) (has m (numbers ps)) h in rw r.0 (has_none ps m r.1)
+has_none (p ∷ ps) m h = let r = or_parts (p.number == m) (has m (numbers ps)) h in rw r.0 (has_none ps m r.1)
 
 pub record IsFree (used : List Pair) (m : ℕ) : Type 0 where
   pub positive : 0 < m
@@ -152,13 +153,13 @@ free_is used = by_least (least (λ n. not (has n (0 ∷ numbers used))) (length 
   where
     by_least : (o : Option ℕ) → least (λ n. not (has n (0 ∷ numbers used))) (length used + 2) ≡ o → IsFree used (value o)
     by_least None e =
-        let all = count_all (λ v. has v (0 ∷ numbers used)) (length used + 2) (λ v less. not_false _ (least_all (λ n. not (has n (0 ∷ numbers used))) (length used + 2) e v less)) in
+        let all = count_all (λ v. has v (0 ∷ numbers used)) (length used + 2) (λ v less. not-false _ (least_all (λ n. not (has n (0 ∷ numbers used))) (length used + 2) e v less)) in
         let c = count_has (0 ∷ numbers used) (length used + 2) in
         let len = length-map used (λ p. p.number) in
         absurd (omega arith)
     by_least (Some m) e =
         let l = least_some (λ n. not (has n (0 ∷ numbers used))) (length used + 2) m e in
-        let r = or_false (0 == m) (has m (numbers used)) (not_is _ l.passes) in
+        let r = or_parts (0 == m) (has m (numbers used)) (not-true _ l.passes) in
         record { positive = positive m r.0; free = has_none used m r.1; few = l.below }
       where
         positive : (m : ℕ) → (0 == m) ≡ false → 0 < m

@@ -8,15 +8,15 @@ use Rattle.mc_mol.specs.Molecule.{Molecule, are_joined}
 use Rattle.mc_mol.specs.WellFormed.{IsMolecule}
 use Rattle.mc_mol.specs.Parts.{are_connected, begins_part, part_count, independent_rings}
 use Rattle.mc_mol.proofs.Labelled.{some_found}
-use Rattle.smi_mean.specs.Order.{Graph, graph_of, Step, order, parent_place, parents, place, atoms}
+use Rattle.mc_mol.proofs.Halves.{same_test}
+use Rattle.smi_mean.specs.Order.{Graph, graph_of, Step, order, parent_rank, parents, rank, atoms}
 use Rattle.smi_mean.specs.Written.{at}
-use Rattle.smi_write.proofs.Least.{test_same}
 use Rattle.smi_write.proofs.Counting.{count}
-use Rattle.smi_write.proofs.Walk.{Grown, grown, length_parents, place_le}
-use Rattle.smi_write.proofs.Once.{length_steps, length_atoms, at_place}
+use Rattle.smi_write.proofs.Walk.{Grown, grown, length_parents, rank_le}
+use Rattle.smi_write.proofs.Once.{length_steps, length_atoms, at_rank}
 use Rattle.smi_write.proofs.Roots.{joined_connected, is_root, count_is, count_implied, roots_few}
 
--- a parent is an earlier place, and its atom is joined to the atom at the place
+-- a parent is an earlier rank, and its atom is joined to the atom at the rank
 pub parent_before : (g : Graph) (before : List Step) → Grown g before → (l j : ℕ) → l < length before → get_or (parents before) l 0 ≡ suc j
     → (j < l) × (g.joined (get_or (atoms before) j 0) (get_or (atoms before) l 0) ≡ true)
 parent_before g [] grown l j less h = absurd (omega arith)
@@ -25,21 +25,21 @@ parent_before g (s ∷ before) grown l j less h =
     let la = length_atoms before in
     elim (cases_lt l (length before)) [
       | inl lt ↦
-          let pf = get_or_append_left (parents before) (parent_place before s.parent ∷ []) 0 l (omega arith) in
+          let pf = get_or_append_left (parents before) (parent_rank before s.parent ∷ []) 0 l (omega arith) in
           let r = parent_before g before grown.0 l j lt (sym pf ∙ h) in
           let earlier = r.0 in
           let at_l = get_or_append_left (atoms before) (s.atom ∷ []) 0 l (omega arith) in
           let at_j = get_or_append_left (atoms before) (s.atom ∷ []) 0 j (omega arith) in
           (earlier, ap (λ (x : ℕ). g.joined x (get_or (atoms before ++ s.atom ∷ []) l 0)) at_j ∙ ap (λ (x : ℕ). g.joined (get_or (atoms before) j 0) x) at_l ∙ r.1)
       | inr ge ↦
-          let pl = get_or_push (parents before) (parent_place before s.parent) 0 l (omega arith) in
+          let pl = get_or_push (parents before) (parent_rank before s.parent) 0 l (omega arith) in
           let at_l = get_or_push (atoms before) s.atom 0 l (omega arith) in
           elim grown.1.parent [
-            | inl none ↦ let z : 0 ≡ suc j = ap (parent_place before) (sym none) ∙ sym pl ∙ h in absurd (omega arith)
+            | inl none ↦ let z : 0 ≡ suc j = ap (parent_rank before) (sym none) ∙ sym pl ∙ h in absurd (omega arith)
             | inr some ↦ let (p, r) = some in
-                let there : place before p ≡ suc j = ap (parent_place before) (sym r.is) ∙ sym pl ∙ h in
-                let le = place_le before p in
-                let at_j = get_or_append_left (atoms before) (s.atom ∷ []) 0 j (omega arith) ∙ at_place before p j there in
+                let there : rank before p ≡ suc j = ap (parent_rank before) (sym r.is) ∙ sym pl ∙ h in
+                let le = rank_le before p in
+                let at_j = get_or_append_left (atoms before) (s.atom ∷ []) 0 j (omega arith) ∙ at_rank before p j there in
                 (omega arith, ap (λ (x : ℕ). g.joined x (get_or (atoms before ++ s.atom ∷ []) l 0)) at_j ∙ ap (λ (x : ℕ). g.joined p x) at_l ∙ r.joined)
           ]
     ]
@@ -59,7 +59,7 @@ parts_low m is bonds kept =
     omega arith
   where
     by_parent : (l : ℕ) → l < length m.atoms → begins_part bonds l ≡ true → (p : ℕ) → get_or (parents (order (graph_of m))) l 0 ≡ p → is_root (graph_of m) l ≡ true
-    by_parent l less begins zero e = ap (λ (x : ℕ). x == 0) e ∙ test_same 0
+    by_parent l less begins zero e = ap (λ (x : ℕ). x == 0) e ∙ same_test 0
     by_parent l less begins (suc j) e =
         let up = parent_at (graph_of m) l j less e in
         let some = some_found (λ v. are_connected bonds v l) l j up.0 (joined_connected bonds j l (kept j l up.0 less up.1)) in

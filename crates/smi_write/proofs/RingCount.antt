@@ -1,17 +1,17 @@
 -- How many ring numbers are opened: no more than the molecule has independent rings.
 use Rattle.std.proofs.Common.{◌≡◌, ℕ, zero, suc, ◌+◌, ◌≤◌, ◌<◌, List, [], ◌∷◌, length, get_or, Bool, true, false, refl, ap, sym, ◌∙◌, inl, inr, arith}
 use Rattle.std.specs.Prelude.{◌==◌, ◌&&◌, ◌||◌, ◌⊎◌, not, nat_lt, if◌then◌else◌}
-use Rattle.std.proofs.lemmas.Bool.{cases_lt, cases_eq}
-use Rattle.std.proofs.lemmas.Bool.Decides.{nat_tests}
+use Rattle.std.proofs.lemmas.Bool.{cases_lt, cases_eq, lt-ltb, le-ltb, ne_eqb, eqb-true, and_parts, or_cases, false_from_ne_true}
 use Rattle.std.proofs.lemmas.List.{length-append}
+use Rattle.std.proofs.Math.Bool.{and-true}
 use Rattle.mc_mol.specs.declared.parts.Bond.{Bond}
 use Rattle.mc_mol.specs.Molecule.{Molecule, joins, are_joined}
 use Rattle.mc_mol.specs.WellFormed.{IsMolecule}
 use Rattle.mc_mol.specs.Parts.{independent_rings}
+use Rattle.mc_mol.proofs.Halves.{same_test}
 use Rattle.smi_mean.specs.Order.{Graph, graph_of, order, parents}
 use Rattle.smi_mean.specs.RingNumbers.{passing, partners}
 use Rattle.smi_mean.specs.Written.{at, has_ring}
-use Rattle.smi_write.proofs.Least.{test_other, test_same, same_of, and_true, or_true, not_true}
 use Rattle.smi_write.proofs.Counting.{count, count_none, count_same, count_one}
 use Rattle.smi_write.proofs.Walk.{grown}
 use Rattle.smi_write.proofs.Once.{length_steps, distinct}
@@ -38,12 +38,6 @@ length_passing p (suc n) = length-append (passing p n) (if p n then n ∷ [] els
     by_test true h = omega arith
     by_test false h = omega arith
 
-lt_true : (k n : ℕ) → k < n → nat_lt k n ≡ true
-lt_true k n less = grind (arith, nat_tests)
-
-lt_false : (k n : ℕ) → n ≤ k → nat_lt k n ≡ false
-lt_false k n le = grind (arith, nat_tests)
-
 partner_more : (r : ℕ → ℕ → Bool) (n k : ℕ) → length (partners r (suc n) k) ≡ length (partners r n k) + (if nat_lt k n && r k n then 1 else 0)
 partner_more r n k =
     let p : ℕ → Bool = λ l. nat_lt k l && r k l in
@@ -67,7 +61,7 @@ opens_more r n (suc k) = let one = partner_more r n k in let h = opens_more r n 
 partners_none : (r : ℕ → ℕ → Bool) (n k : ℕ) → n ≤ suc k → length (partners r n k) ≡ 0
 partners_none r n k le =
     length_passing (λ l. nat_lt k l && r k l) n
-    ∙ count_none (λ l. nat_lt k l && r k l) n (λ l less. ap (λ (b : Bool). b && r k l) (lt_false k l (omega arith)))
+    ∙ count_none (λ l. nat_lt k l && r k l) n (λ l less. ap (λ (b : Bool). b && r k l) (le-ltb k l (omega arith)))
 
 pub opens_pairs : (r : ℕ → ℕ → Bool) (n : ℕ) → opens r n n ≡ pairs r n
 opens_pairs r zero = refl
@@ -75,7 +69,7 @@ opens_pairs r (suc n) =
     let last = partners_none r (suc n) n (omega arith) in
     let more = opens_more r n n in
     let h = opens_pairs r n in
-    let same = count_same (λ j. r j n) (λ j. nat_lt j n && r j n) n (λ j less. ap (λ (b : Bool). b && r j n) (lt_true j n less)) in
+    let same = count_same (λ j. r j n) (λ j. nat_lt j n && r j n) n (λ j less. ap (λ (b : Bool). b && r j n) (lt-ltb j n less)) in
     omega arith
 
 opens_later : (r : ℕ → ℕ → Bool) (n k m : ℕ) → k ≤ m → opens r n k ≤ opens r n m
@@ -130,7 +124,7 @@ count_single p (suc n) one = by_test (p n) refl (count_single p n (λ j k less b
   where
     by_test : (b : Bool) → p n ≡ b → count p n ≤ 1 → (if b then suc (count p n) else count p n) ≤ 1
     by_test false e h = h
-    by_test true e h = let none = count_none p n (λ j less. not_true (p j) (λ t. one j n less (omega arith) t e)) in omega arith
+    by_test true e h = let none = count_none p n (λ j less. false_from_ne_true (p j) (λ t. one j n less (omega arith) t e)) in omega arith
 
 -- one that passes, where some do
 count_some : (p : ℕ → Bool) (n : ℕ) → (count p n ≡ 0) ⊎ ((j : ℕ) × (j < n) × (p j ≡ true))
@@ -149,22 +143,22 @@ pairs_single r (suc n) one = by_last (pairs_single r n (λ j l i k a b c d. one 
     by_last : pairs r n ≤ 1 → (count (λ j. r j n) n ≡ 0) ⊎ ((j : ℕ) × (j < n) × (r j n ≡ true)) → pairs r n + count (λ j. r j n) n ≤ 1
     by_last h (inl none) = omega arith
     by_last h (inr (j, less, t)) =
-        let before = pairs_none r n (λ i k lt below. not_true (r i k) (λ u. let e = (one j n i k less (omega arith) lt (omega arith) t u).1 in omega arith)) in
+        let before = pairs_none r n (λ i k lt below. false_from_ne_true (r i k) (λ u. let e = (one j n i k less (omega arith) lt (omega arith) t u).1 in omega arith)) in
         let here = count_single (λ i. r i n) n (λ i k lt below u w. let e = (one i n k n (omega arith) (omega arith) below (omega arith) u w).0 in omega arith) in
         omega arith
 
--- a bond joins one pair of places at most
+-- a bond joins one pair of ranks at most
 bond_once : (b : Bond) (at : ℕ → ℕ) (n : ℕ) → ((j k : ℕ) → j < k → k < n → at j ≡ at k → ⊥) → pairs (λ j l. joins b (at j) (at l)) n ≤ 1
 bond_once b at n apart = pairs_single (λ j l. joins b (at j) (at l)) n (λ j l i k less below lt under t u. by_ends j l i k less below lt under (ends j l t) (ends i k u))
   where
     ends : (j l : ℕ) → joins b (at j) (at l) ≡ true → ((b.first.0 ≡ at j) × (b.second.0 ≡ at l)) ⊎ ((b.first.0 ≡ at l) × (b.second.0 ≡ at j))
-    ends j l t = elim (or_true (b.first.0 == at j && b.second.0 == at l) (b.first.0 == at l && b.second.0 == at j) t) [
-      | inl h ↦ let r = and_true (b.first.0 == at j) (b.second.0 == at l) h in inl (same_of b.first.0 (at j) r.0, same_of b.second.0 (at l) r.1)
-      | inr h ↦ let r = and_true (b.first.0 == at l) (b.second.0 == at j) h in inr (same_of b.first.0 (at l) r.0, same_of b.second.0 (at j) r.1)
+    ends j l t = elim (or_cases (b.first.0 == at j && b.second.0 == at l) (b.first.0 == at l && b.second.0 == at j) t) [
+      | inl h ↦ let r = and_parts (b.first.0 == at j) (b.second.0 == at l) h in inl (eqb-true b.first.0 (at j) r.0, eqb-true b.second.0 (at l) r.1)
+      | inr h ↦ let r = and_parts (b.first.0 == at l) (b.second.0 == at j) h in inr (eqb-true b.first.0 (at l) r.0, eqb-true b.second.0 (at j) r.1)
     ]
 
-    one_place : (j k : ℕ) → j < n → k < n → at j ≡ at k → j ≡ k
-    one_place j k less below e = elim (cases_eq j k) [
+    one_rank : (j k : ℕ) → j < n → k < n → at j ≡ at k → j ≡ k
+    one_rank j k less below e = elim (cases_eq j k) [
       | inl same ↦ same
       | inr ne ↦ elim (cases_lt j k) [ inl lt ↦ absurd (apart j k lt below e) | inr ge ↦ absurd (apart k j (omega arith) less (sym e)) ]
     ]
@@ -172,14 +166,14 @@ bond_once b at n apart = pairs_single (λ j l. joins b (at j) (at l)) n (λ j l 
     by_ends : (j l i k : ℕ) → j < l → l < n → i < k → k < n
         → (((b.first.0 ≡ at j) × (b.second.0 ≡ at l)) ⊎ ((b.first.0 ≡ at l) × (b.second.0 ≡ at j)))
         → (((b.first.0 ≡ at i) × (b.second.0 ≡ at k)) ⊎ ((b.first.0 ≡ at k) × (b.second.0 ≡ at i))) → (j ≡ i) × (l ≡ k)
-    by_ends j l i k less below lt under (inl h) (inl g) = (one_place j i (omega arith) (omega arith) (sym h.0 ∙ g.0), one_place l k below under (sym h.1 ∙ g.1))
+    by_ends j l i k less below lt under (inl h) (inl g) = (one_rank j i (omega arith) (omega arith) (sym h.0 ∙ g.0), one_rank l k below under (sym h.1 ∙ g.1))
     by_ends j l i k less below lt under (inl h) (inr g) =
-        let a = one_place j k (omega arith) under (sym h.0 ∙ g.0) in let c = one_place l i below (omega arith) (sym h.1 ∙ g.1) in absurd (omega arith)
+        let a = one_rank j k (omega arith) under (sym h.0 ∙ g.0) in let c = one_rank l i below (omega arith) (sym h.1 ∙ g.1) in absurd (omega arith)
     by_ends j l i k less below lt under (inr h) (inl g) =
-        let a = one_place l i below (omega arith) (sym h.0 ∙ g.0) in let c = one_place j k (omega arith) under (sym h.1 ∙ g.1) in absurd (omega arith)
-    by_ends j l i k less below lt under (inr h) (inr g) = (one_place j i (omega arith) (omega arith) (sym h.1 ∙ g.1), one_place l k below under (sym h.0 ∙ g.0))
+        let a = one_rank l i below (omega arith) (sym h.0 ∙ g.0) in let c = one_rank j k (omega arith) under (sym h.1 ∙ g.1) in absurd (omega arith)
+    by_ends j l i k less below lt under (inr h) (inr g) = (one_rank j i (omega arith) (omega arith) (sym h.1 ∙ g.1), one_rank l k below under (sym h.0 ∙ g.0))
 
--- the joined pairs of places are no more than the bonds
+-- the joined pairs of ranks are no more than the bonds
 pub joined_few : (bonds : List Bond) (at : ℕ → ℕ) (n : ℕ) → ((j k : ℕ) → j < k → k < n → at j ≡ at k → ⊥) → pairs (λ j l. are_joined bonds (at j) (at l)) n ≤ length bonds
 joined_few [] at n apart = let none = pairs_none (λ j l. are_joined [] (at j) (at l)) n (λ j l less below. refl) in omega arith
 joined_few (b ∷ bonds) at n apart =
@@ -189,26 +183,22 @@ joined_few (b ∷ bonds) at n apart =
 
 -- Ring bonds are the joined pairs that lead to no parent.
 
-end : (b : Bool) → (b && true) ≡ b
-end true = refl
-end false = refl
-
 rings_here : (g : Graph) (l : ℕ) → l < g.count → count (λ j. has_ring g j l) l + 1 ≡ count (λ j. g.joined (at g j) (at g l)) l + (if is_root g l then 1 else 0)
 rings_here g l less = by_parent (get_or (parents (order g)) l 0) refl
   where
     by_parent : (p : ℕ) → get_or (parents (order g)) l 0 ≡ p → count (λ j. has_ring g j l) l + 1 ≡ count (λ j. g.joined (at g j) (at g l)) l + (if is_root g l then 1 else 0)
     by_parent zero e =
         let same = count_same (λ j. g.joined (at g j) (at g l)) (λ j. has_ring g j l) l
-        (λ j lt. ap (λ (x : ℕ). g.joined (at g j) (at g l) && not (x == suc j)) e ∙ rw (test_other 0 (suc j) (omega arith)) (end (g.joined (at g j) (at g l)))) in
-        let root : is_root g l ≡ true = ap (λ (x : ℕ). x == 0) e ∙ test_same 0 in
+        (λ j lt. ap (λ (x : ℕ). g.joined (at g j) (at g l) && not (x == suc j)) e ∙ rw (ne_eqb 0 (suc j) (omega arith)) (and-true (g.joined (at g j) (at g l)))) in
+        let root : is_root g l ≡ true = ap (λ (x : ℕ). x == 0) e ∙ same_test 0 in
         rw root (omega arith)
     by_parent (suc p) e =
         let up = parent_at g l p less e in
         let one = count_one (λ j. has_ring g j l) (λ j. g.joined (at g j) (at g l)) p l
-        (λ j ne. sym (ap (λ (x : ℕ). g.joined (at g j) (at g l) && not (x == suc j)) e ∙ rw (test_other (suc p) (suc j) (omega arith)) (end (g.joined (at g j) (at g l)))))
-        (ap (λ (x : ℕ). g.joined (at g p) (at g l) && not (x == suc p)) e ∙ rw (up.1, test_same (suc p)) refl)
+        (λ j ne. sym (ap (λ (x : ℕ). g.joined (at g j) (at g l) && not (x == suc j)) e ∙ rw (ne_eqb (suc p) (suc j) (omega arith)) (and-true (g.joined (at g j) (at g l)))))
+        (ap (λ (x : ℕ). g.joined (at g p) (at g l) && not (x == suc p)) e ∙ rw (up.1, same_test (suc p)) refl)
         up.1 up.0 in
-        let root : is_root g l ≡ false = ap (λ (x : ℕ). x == 0) e ∙ test_other (suc p) 0 (omega arith) in
+        let root : is_root g l ≡ false = ap (λ (x : ℕ). x == 0) e ∙ ne_eqb (suc p) 0 (omega arith) in
         rw root (omega arith)
 
 rings_split : (g : Graph) (n : ℕ) → n ≤ g.count → pairs (λ j l. has_ring g j l) n + n ≡ pairs (λ j l. g.joined (at g j) (at g l)) n + count (λ l. is_root g l) n

@@ -10,6 +10,8 @@ use Rattle.mc_mol.specs.Molecule.{Molecule}
 use Rattle.mc_mol.specs.WellFormed.{IsMolecule}
 use Rattle.mc_mol.specs.Same.{HasBond, Same, SameCentre, SameSides, entry}
 use Rattle.smi_graph.specs.Rules.{atoms_in, bonds_in}
+use Rattle.smi_graph.proofs.Plain.{upper_atoms}
+use Rattle.smi_mean.proofs.Placing.{meaning_of_text, only_meaning}
 use Rattle.smi_mean.specs.Meaning.{meaning, nones}
 use Rattle.smi_mean.specs.Order.{graph_of, order, atoms}
 use Rattle.smi_mean.specs.Sound.{IsSound}
@@ -17,9 +19,9 @@ use Rattle.smi_mean.specs.Written.{at, written_order, written_text}
 use Rattle.smi_write.specs.ReadBack.{IsReadBack}
 use Rattle.smi_write.specs.Structure.{IsOrder}
 use Rattle.smi_write.proofs.Structured.{IsRead, Structured, is_read, length_with}
-use Rattle.smi_write.proofs.NoneStands.{none_stands}
+use Rattle.smi_write.proofs.NoneStands.{no_need, none_stands}
 
--- entry k of the written order is the atom at place k
+-- entry k of the written order is the atom at rank k
 entry_is : (us : List ℕ) (k : ℕ) → entry (map (λ u. record { 0 = u }) us) k ≡ get_or us k 0
 entry_is [] k = refl
 entry_is (u ∷ us) zero = refl
@@ -50,18 +52,18 @@ same_molecule m text sound ordered read =
     let f : List AtomId = written_order m in
     let whole : length us ≡ length m.atoms = ordered.whole in
     let size : length f ≡ length us = length-map us (λ u. record { 0 = u }) in
-    let at_place : (k : ℕ) → entry f k ≡ at (graph_of m) k = entry_is us in
+    let at_rank : (k : ℕ) → entry f k ≡ at (graph_of m) k = entry_is us in
     let count : length (meaning text).atoms ≡ length m.atoms = length_with (bonds_in text) 0 (atoms_in text) ∙ read.count in
     record {
       length_map = size ∙ whole ∙ sym count;
       length_atoms = count;
-      in_range = λ k less. let here = at_place k in let low = ordered.in_range k (omega arith) in omega arith;
-      distinct = λ j k less below same. ordered.distinct j k less (omega arith) (sym (at_place j) ∙ same ∙ at_place k);
-      atoms = λ k less. read.same_atoms k (omega arith) ∙ ap (slice_get m.atoms) (sym (at_place k));
+      in_range = λ k less. let here = at_rank k in let low = ordered.in_range k (omega arith) in omega arith;
+      distinct = λ j k less below same. ordered.distinct j k less (omega arith) (sym (at_rank j) ∙ same ∙ at_rank k);
+      atoms = λ k less. read.same_atoms k (omega arith) ∙ ap (slice_get m.atoms) (sym (at_rank k));
       length_bonds = read.reads.count;
       bonds = λ k bond is.
-          subst (λ (u : ℕ). HasBond m.bonds u (entry f bond.second.0) bond.order) (sym (at_place bond.first.0))
-          (subst (λ (v : ℕ). HasBond m.bonds (at (graph_of m) bond.first.0) v bond.order) (sym (at_place bond.second.0)) (read.reads.bonds k bond is));
+          subst (λ (u : ℕ). HasBond m.bonds u (entry f bond.second.0) bond.order) (sym (at_rank bond.first.0))
+          (subst (λ (v : ℕ). HasBond m.bonds (at (graph_of m) bond.first.0) v bond.order) (sym (at_rank bond.second.0)) (read.reads.bonds k bond is));
       centres = λ k q p less is_q is_p.
           no_centre f q p (none_at (meaning text).atoms k q is_q)
           (none_at m.atoms (entry f k) p (sym (ap (λ (centres : List (Option (List Slot))). slice_get centres (entry f k)) sound.no_centres) ∙ is_p));
@@ -73,9 +75,10 @@ same_molecule m text sound ordered read =
 pub round_trip : (m : Molecule) → IsMolecule m → IsSound m → Structured m → IsReadBack m (written_text m) (written_order m)
 round_trip m is sound structured =
     let read = is_read m sound structured in
+    let none = no_need (written_text m) (upper_atoms (written_text m) read.plain) in
     record {
       molecule = meaning (written_text m);
-      reads = record { accepted = none_stands m (written_text m) is sound read; molecule = refl };
-      only = λ other stands. stands.molecule;
+      reads = record { accepted = none_stands m (written_text m) is sound read; molecule = meaning_of_text (written_text m) none };
+      only = λ other stands. only_meaning (written_text m) other none stands.molecule;
       same = same_molecule m (written_text m) sound structured.order read;
     }

@@ -7,14 +7,15 @@ use Rattle.smi_write.proofs.Symbols.{HasSymbols}
 use Rattle.std.proofs.Common.{◌≡◌, ℕ, zero, suc, ◌+◌, ◌<◌, List, [], ◌∷◌, length, Bool, true, false, Option, Some, refl, ap, sym, ◌∙◌, subst, inl, inr, arith}
 use Rattle.std.specs.Prelude.{◌||◌, ◌&&◌, ◌==◌, slice_get, if◌then◌else◌}
 use Rattle.std.proofs.lemmas.Bool.{cases_lt, false≢true}
+use Rattle.std.proofs.lemmas.Option.{same_Some}
 use Rattle.mc_mol.specs.declared.parts.Bond.{Bond}
 use Rattle.mc_mol.specs.Molecule.{Molecule, joins, are_joined}
 use Rattle.mc_mol.specs.Same.{HasBond}
+use Rattle.mc_mol.proofs.Halves.{same_test}
 use Rattle.smi_graph.specs.Links.{bonds_of}
 use Rattle.smi_mean.specs.Order.{Graph, order_between, graph_of}
 use Rattle.smi_mean.specs.RingNumbers.{onto_all}
 use Rattle.smi_mean.specs.Written.{at}
-use Rattle.smi_write.proofs.Least.{test_same, some_same}
 use Rattle.smi_write.proofs.Hits.{bit}
 use Rattle.smi_write.proofs.BondCounts.{hit, bond_count}
 use Rattle.smi_write.proofs.Whole.{graph_roles, is_read}
@@ -24,14 +25,14 @@ use Rattle.smi_write.specs.Structure.{SayOrders}
 counted : (b : Bond) (k : ℕ) (xs : List Bond) → slice_get xs k ≡ Some b → 0 < bond_count b.first.0 b.second.0 xs
 counted b k [] h = cc
 counted b zero (x ∷ xs) h =
-    let e : x ≡ b = some_same x b h in
-    let own : hit b.first.0 b.second.0 b ≡ 1 = rw (test_same b.first.0, test_same b.second.0) refl in
+    let e : x ≡ b = same_Some x b h in
+    let own : hit b.first.0 b.second.0 b ≡ 1 = rw (same_test b.first.0, same_test b.second.0) refl in
     let here : hit b.first.0 b.second.0 x ≡ 1 = ap (hit b.first.0 b.second.0) e ∙ own in omega arith
 counted b (suc k) (x ∷ xs) h = let r = counted b k xs h in omega arith
 
 ordered_at : (v : ℕ → ℕ → ℕ) (b : Bond) (k : ℕ) (xs : List Bond) → Ordered v xs → slice_get xs k ≡ Some b → b.order ≡ v b.first.0 b.second.0
 ordered_at v b k [] o h = cc
-ordered_at v b zero (x ∷ xs) o h = subst (λ (y : Bond). y.order ≡ v y.first.0 y.second.0) (some_same x b h) o.0
+ordered_at v b zero (x ∷ xs) o h = subst (λ (y : Bond). y.order ≡ v y.first.0 y.second.0) (same_Some x b h) o.0
 ordered_at v b (suc k) (x ∷ xs) o h = ordered_at v b k xs o.1 h
 
 found : (bs : List Bond) (u v : ℕ) → are_joined bs u v ≡ true → HasBond bs u v (order_between bs u v)
@@ -84,7 +85,7 @@ read_joined m v j l less below h =
 -- each bond that is read has the symbol of its atoms' bond, at its first atom
 symbol_at : (v : ℕ → ℕ → Option BondMark) (k : ℕ) (b : TextBond) (bs : List TextBond) → HasSymbols v bs → slice_get bs k ≡ Some b → (b.opening ≡ v b.first.0 b.second.0) × (b.closing ≡ None)
 symbol_at v k b [] has at = cc
-symbol_at v zero b (x ∷ bs) has at = subst (λ (y : TextBond). (y.opening ≡ v y.first.0 y.second.0) × (y.closing ≡ None)) (some_same x b at) has.0
+symbol_at v zero b (x ∷ bs) has at = subst (λ (y : TextBond). (y.opening ≡ v y.first.0 y.second.0) × (y.closing ≡ None)) (same_Some x b at) has.0
 symbol_at v (suc k) b (x ∷ bs) has at = symbol_at v k b bs has.1 at
 
 pub same_symbols : (g : Graph) (v : ℕ → ℕ → Option BondMark) (k : ℕ) (b : TextBond) → slice_get (text_bonds (onto_all (graph_roles g v) [])) k ≡ Some b

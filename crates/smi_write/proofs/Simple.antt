@@ -1,37 +1,28 @@
 -- The bonds of a molecule: between different atoms, no pair twice, of the orders that have symbols.
 use Rattle.std.proofs.Common.{◌≡◌, ◌≢◌, ℕ, zero, suc, ◌≤◌, ◌<◌, List, [], ◌∷◌, Bool, true, false, refl, ap, sym, ◌∙◌, inl, inr, arith}
 use Rattle.std.specs.Prelude.{◌==◌, ◌&&◌, ◌||◌, All, AllPairs, if◌then◌else◌}
-use Rattle.std.proofs.lemmas.Bool.{false≢true}
+use Rattle.std.proofs.lemmas.Bool.{false≢true, eqb-true, and_parts, or_cases, false_from_ne_true}
 use Rattle.mc_mol.specs.declared.parts.Bond.{Bond}
 use Rattle.mc_mol.specs.Molecule.{joins, are_joined}
 use Rattle.mc_mol.specs.WellFormed.{IsBond}
 use Rattle.mc_mol.proofs.Lists.{All-head, All-tail}
+use Rattle.mc_mol.proofs.Halves.{same_test}
 use Rattle.smi_mean.specs.Order.{order_between}
-use Rattle.smi_write.proofs.Least.{test_same, same_of, and_true, or_true, not_true}
 use Rattle.smi_graph.specs.Links.{order_of}
 use Rattle.smi_mean.specs.Written.{symbol_of}
 
-pub or_comm : (a b : Bool) → (a || b) ≡ (b || a)
-or_comm true true = refl
-or_comm true false = refl
-or_comm false true = refl
-or_comm false false = refl
-
-pub joins_swap : (b : Bond) (u v : ℕ) → joins b u v ≡ joins b v u
-joins_swap b u v = or_comm (b.first.0 == u && b.second.0 == v) (b.first.0 == v && b.second.0 == u)
-
 -- the ends of two bonds may be named from either
 pub joins_each : (x b : Bond) → joins x b.first.0 b.second.0 ≡ true → joins b x.first.0 x.second.0 ≡ true
-joins_each x b t = elim (or_true (x.first.0 == b.first.0 && x.second.0 == b.second.0) (x.first.0 == b.second.0 && x.second.0 == b.first.0) t) [
+joins_each x b t = elim (or_cases (x.first.0 == b.first.0 && x.second.0 == b.second.0) (x.first.0 == b.second.0 && x.second.0 == b.first.0) t) [
   | inl h ↦
-      let r = and_true (x.first.0 == b.first.0) (x.second.0 == b.second.0) h in
-      let p : (b.first.0 == x.first.0) ≡ true = ap (λ (y : ℕ). b.first.0 == y) (same_of x.first.0 b.first.0 r.0) ∙ test_same b.first.0 in
-      let q : (b.second.0 == x.second.0) ≡ true = ap (λ (y : ℕ). b.second.0 == y) (same_of x.second.0 b.second.0 r.1) ∙ test_same b.second.0 in
+      let r = and_parts (x.first.0 == b.first.0) (x.second.0 == b.second.0) h in
+      let p : (b.first.0 == x.first.0) ≡ true = ap (λ (y : ℕ). b.first.0 == y) (eqb-true x.first.0 b.first.0 r.0) ∙ same_test b.first.0 in
+      let q : (b.second.0 == x.second.0) ≡ true = ap (λ (y : ℕ). b.second.0 == y) (eqb-true x.second.0 b.second.0 r.1) ∙ same_test b.second.0 in
       rw (p, q) refl
   | inr h ↦
-      let r = and_true (x.first.0 == b.second.0) (x.second.0 == b.first.0) h in
-      let p : (b.first.0 == x.second.0) ≡ true = ap (λ (y : ℕ). b.first.0 == y) (same_of x.second.0 b.first.0 r.1) ∙ test_same b.first.0 in
-      let q : (b.second.0 == x.first.0) ≡ true = ap (λ (y : ℕ). b.second.0 == y) (same_of x.first.0 b.second.0 r.0) ∙ test_same b.second.0 in
+      let r = and_parts (x.first.0 == b.second.0) (x.second.0 == b.first.0) h in
+      let p : (b.first.0 == x.second.0) ≡ true = ap (λ (y : ℕ). b.first.0 == y) (eqb-true x.second.0 b.first.0 r.1) ∙ same_test b.first.0 in
+      let q : (b.second.0 == x.first.0) ≡ true = ap (λ (y : ℕ). b.second.0 == y) (eqb-true x.first.0 b.second.0 r.0) ∙ same_test b.second.0 in
       or_last (b.first.0 == x.first.0 && b.second.0 == x.second.0) (b.first.0 == x.second.0 && b.second.0 == x.first.0) (both (b.first.0 == x.second.0) (b.second.0 == x.first.0) p q)
 ]
   where
@@ -52,7 +43,7 @@ apart : (b : Bond) (bs : List Bond) → All (λ (c : Bond). joins b c.first.0 c.
 apart b [] h = refl
 apart b (c ∷ bs) h =
     let first = All-head (λ (c : Bond). joins b c.first.0 c.second.0 ≡ false) c bs h in
-    let not : joins c b.first.0 b.second.0 ≡ false = not_true (joins c b.first.0 b.second.0) (λ t. false≢true (sym first ∙ joins_each c b t)) in
+    let not : joins c b.first.0 b.second.0 ≡ false = false_from_ne_true (joins c b.first.0 b.second.0) (λ t. false≢true (sym first ∙ joins_each c b t)) in
     rw not (apart b bs (All-tail (λ (c : Bond). joins b c.first.0 c.second.0 ≡ false) c bs h))
 
 pub simple_of : (n : ℕ) (bs : List Bond) → All (IsBond n) bs → AllPairs (λ (b c : Bond). joins b c.first.0 c.second.0 ≡ false) bs → Simple n bs

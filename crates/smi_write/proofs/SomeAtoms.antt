@@ -1,5 +1,6 @@
 -- A text has bytes where its molecule has atoms.
-use Rattle.std.proofs.Common.{arith, ◌≡◌, ◌<◌, ◌+◌, ◌-◌, ℕ, Bool, true, false, List, [], ◌∷◌, ◌++◌, length, Some, refl, sym, ap, subst, ◌∙◌}
+use Rattle.std.proofs.Common.{arith, ◌≡◌, ◌<◌, ◌+◌, ◌-◌, ℕ, false, List, [], ◌∷◌, ◌++◌, length, Some, refl, sym, ap, subst, ◌∙◌}
+use Rattle.std.proofs.lemmas.Bool.{false_from_ne_true}
 use Rattle.mc_base.specs.declared.kind.Kind.{Kind}
 use Rattle.mc_base.specs.declared.kind.Kind.TheVariants.{BadToken, Wildcard, OtherChirality, BadOrder}
 use Rattle.mc_base.specs.declared.span.Span.{Span}
@@ -48,15 +49,11 @@ first_atom kind.Enter span more placed = cc
 first_atom kind.Leave span more placed = cc
 first_atom kind.Dot span more placed = cc
 
-not_true : (b : Bool) → (b ≡ true → ⊥) → b ≡ false
-not_true true h = absurd (h refl)
-not_true false h = refl
-
 -- a text with bytes stands for a molecule with atoms
 pub some_atoms : (text : List ℕ) (m : Molecule) → 0 < length text → SmilesStands text m → 0 < length m.atoms
 some_atoms text m some stands =
     let size : length (meaning text).atoms ≡ length (atoms_in text) = length_with (bonds_in text) 0 (atoms_in text) in
-    let same : length m.atoms ≡ length (meaning text).atoms = ap (λ (m : Molecule). length m.atoms) stands.molecule in
+    let same : length m.atoms ≡ length (meaning text).atoms = ap (λ (m : Molecule). length m.atoms) stands.molecule.molecule in
     let more = by_tokens (tokens text) refl in
     omega arith
   where
@@ -68,7 +65,7 @@ some_atoms text m some stands =
         absurd (omega arith)
     by_tokens (t ∷ ts) is =
         let placed : misplaced_at (roles_in text) 0 ≡ false =
-        not_true (misplaced_at (roles_in text) 0) (λ bad. stands.accepted BadOrder (byte_place text 0) (0, (omega arith, bad), refl)) in
+        false_from_ne_true (misplaced_at (roles_in text) 0) (λ bad. stands.accepted BadOrder (byte_place text 0) (0, (omega arith, bad), refl)) in
         first_atom t.kind t.span (atoms_of ts) (sym (ap (λ (us : List Token). misplaced_at (roles us) 0) is) ∙ placed)
 
 -- a molecule with atoms is written as a text with bytes

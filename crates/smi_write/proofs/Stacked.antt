@@ -19,9 +19,6 @@ pub spent_stays : (g : Graph) (written : List Step) (s : Step) (u : ℕ) → unw
 spent_stays g written s u h = least_none _ g.count (λ v less.
     still (g.joined u v) _ (is_written written v) (least_all (λ v. g.joined u v && not (is_written written v)) g.count h v less))
 
-same_head : (a b : ℕ) (us vs : List ℕ) → a ∷ us ≡ b ∷ vs → (a ≡ b) × (us ≡ vs)
-same_head a b us vs h = (cc, cc)
-
 pub next_none : (g : Graph) (written others : List Step) → Stacked g written others [] → next_behind g written others ≡ None
 next_none g written [] h = refl
 next_none g written (s ∷ others) (inl h) = rw h.0 (next_none g written others h.1)
@@ -32,7 +29,7 @@ pub next_top : (g : Graph) (written others : List Step) (u v : ℕ) (us : List �
 next_top g written [] u v us h found = cc
 next_top g written (s ∷ others) u v us (inl h) found = rw h.0 (next_top g written others u v us h.1 found)
 next_top g written (s ∷ others) u v us (inr (vs, e, h)) found =
-    let same = (same_head u s.atom us vs e).0 in
+    let same : u ≡ s.atom = cc in
     let found' : unwritten_neighbour g written s.atom ≡ Some v = ap (unwritten_neighbour g written) (sym same) ∙ found in
     rw found' (ap (λ (x : ℕ). Some (behind x v)) (sym same))
 
@@ -41,8 +38,9 @@ pub popped : (g : Graph) (written others : List Step) (u : ℕ) (us : List ℕ) 
 popped g written [] u us h none = cc
 popped g written (s ∷ others) u us (inl h) none = inl (h.0, popped g written others u us h.1 none)
 popped g written (s ∷ others) u us (inr (vs, e, h)) none =
-    let same = same_head u s.atom us vs e in
-    inl (ap (unwritten_neighbour g written) (sym same.0) ∙ none, subst (λ (x : List ℕ). Stacked g written others x) (sym same.1) h)
+    let top : u ≡ s.atom = cc in
+    let rest : us ≡ vs = cc in
+    inl (ap (unwritten_neighbour g written) (sym top) ∙ none, subst (λ (x : List ℕ). Stacked g written others x) (sym rest) h)
 
 pub stays_stacked : (g : Graph) (written others : List Step) (s : Step) (stack : List ℕ) → Stacked g written others stack → Stacked g (s ∷ written) others stack
 stays_stacked g written [] s stack h = h
@@ -55,5 +53,6 @@ pub popped_below : (g : Graph) (written others : List Step) (v u : ℕ) (us : Li
 popped_below g written [] v u us h none = cc
 popped_below g written (s ∷ others) v u us (inl h) none = inl (h.0, popped_below g written others v u us h.1 none)
 popped_below g written (s ∷ others) v u us (inr (vs, e, h)) none =
-    let same = same_head v s.atom (u ∷ us) vs e in
-    inr (us, ap (λ (x : ℕ). x ∷ us) same.0, popped g written others u us (subst (λ (x : List ℕ). Stacked g written others x) (sym same.1) h) none)
+    let top : v ≡ s.atom = cc in
+    let rest : u ∷ us ≡ vs = cc in
+    inr (us, ap (λ (x : ℕ). x ∷ us) top, popped g written others u us (subst (λ (x : List ℕ). Stacked g written others x) (sym rest) h) none)

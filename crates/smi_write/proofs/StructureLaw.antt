@@ -26,7 +26,7 @@ use Rattle.smi_write.proofs.Closed.{closed_of}
 use Rattle.smi_write.proofs.RoleText.{AreAtoms, text_is}
 use Rattle.smi_write.proofs.Simple.{simple_of}
 use Rattle.smi_write.proofs.Whole.{graph_roles, IsReadAs, is_read}
-use Rattle.smi_write.proofs.Placed.{read_length}
+use Rattle.smi_write.proofs.Ranked.{read_length}
 use Rattle.smi_write.proofs.BondSums.{read_bond_sum}
 use Rattle.smi_write.proofs.SameBonds.{same_bonds, same_symbols, read_joined}
 

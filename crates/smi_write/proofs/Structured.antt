@@ -1,22 +1,27 @@
 -- What is known of a written text once its tokens are read as the structure of its molecule.
 use Rattle.std.proofs.Common.{arith, ◌≡◌, ◌<◌, ◌≤◌, ◌+◌, ℕ, zero, suc, true, false, List, [], ◌∷◌, length, map, reverse, Option, Some, None, refl, sym, ap, subst, ◌∙◌}
-use Rattle.std.specs.Prelude.{slice_get}
+use Rattle.std.specs.Prelude.{slice_get, not}
 use Rattle.std.specs.List.{list_all}
 use Rattle.std.proofs.lemmas.List.Folds.{list_all-map}
 use Rattle.mc_mol.specs.declared.parts.Atom.{Atom}
 use Rattle.mc_mol.specs.declared.parts.Bond as bond
 use Rattle.mc_mol.specs.Molecule.{Molecule, bond_sum}
 use Rattle.mc_mol.specs.Parts.{independent_rings}
+use mathlib.Core.List.{reverse_aux}
+use Rattle.smi_lex.specs.declared.token.BondMark.{BondMark}
+use Rattle.smi_lex.specs.declared.token.BondMark.TheVariants.{Single, Double, Triple, Quadruple, Aromatic, Slash, Backslash}
 use Rattle.smi_lex.specs.declared.token.Token.{Token}
 use Rattle.smi_lex.specs.declared.token.TokenKind.{TokenKind}
 use Rattle.smi_lex.specs.declared.token.TokenKind.TheVariants.{Bare, Bracket, Bond, Ring, Enter, Leave, Dot}
 use Rattle.smi_lex.specs.Tokens.{tokens, unread}
 use Rattle.smi_lex.proofs.Reading.{reads_from}
 use Rattle.smi_graph.specs.declared.role.Role.{Role}
+use Rattle.smi_graph.specs.declared.role.Role.TheVariants as doing
 use Rattle.smi_graph.specs.declared.skel_atom.SkelAtom.{SkelAtom}
 use Rattle.smi_graph.specs.Links.{bonds_of}
 use Rattle.smi_graph.specs.Roles.{role_of, roles}
-use Rattle.smi_graph.specs.Rules.{atoms_in, bonds_in, is_built, is_built_kind, roles_in}
+use Rattle.smi_graph.specs.Reading.{is_plain, all_plain}
+use Rattle.smi_graph.specs.Rules.{atoms_in, bonds_in, is_built, is_built_kind, is_built_mark, roles_in}
 use Rattle.smi_mean.specs.Meaning.{atoms_with, meaning}
 use Rattle.smi_mean.specs.Order.{Graph, graph_of, order, atoms, parents}
 use Rattle.smi_mean.specs.Sound.{IsSound}
@@ -24,7 +29,7 @@ use Rattle.smi_mean.specs.Written.{at, atom_token, bond_symbol, has_ring, token_
 use Rattle.smi_write.specs.Structure.{ReadsAs, IsOrder}
 use Rattle.smi_write.proofs.Walk.{length_parents}
 use Rattle.smi_write.proofs.Once.{length_atoms}
-use Rattle.smi_write.proofs.TokenSpelled.{IsWritten}
+use Rattle.smi_write.proofs.TokenSpelled.{is_written_mark, IsWritten}
 use Rattle.smi_write.proofs.KindsRead.{AreWritten, kinds_read, unread_none}
 use Rattle.smi_write.proofs.TokensWritten.{RingsFit, role_of_atom, tokens_written}
 use Rattle.smi_write.proofs.AtomsRead.{atom_tokens, atoms_meant, atoms_of_text, length_meant, meant_at, meant_atoms, meant_by, token_means}
@@ -40,6 +45,7 @@ pub record Structured (m : Molecule) : Type 0 where
 pub record IsRead (m : Molecule) (text : List ℕ) : Type 0 where
   pub nothing_left : unread text ≡ []
   pub built : is_built text ≡ true
+  pub plain : all_plain (reverse (roles_in text)) ≡ true
   pub reads : ReadsAs m (λ j l. bond_symbol (graph_of m) j l) (roles_in text)
   pub count : length (atoms_in text) ≡ length m.atoms
   pub same_atoms : (k : ℕ) → k < length m.atoms → slice_get (meaning text).atoms k ≡ slice_get m.atoms (at (graph_of m) k)
@@ -47,13 +53,22 @@ pub record IsRead (m : Molecule) (text : List ℕ) : Type 0 where
 
 -- every token is one that is read today
 
+mark_built : (mark : BondMark) → is_written_mark mark ≡ true → is_built_mark mark ≡ true
+mark_built Double is = refl
+mark_built Triple is = refl
+mark_built Quadruple is = refl
+mark_built Single is = refl
+mark_built Aromatic is = refl
+mark_built Slash is = cc
+mark_built Backslash is = cc
+
 one_built : (kind : TokenKind) → IsWritten kind → is_built_kind kind ≡ true
 one_built (Bare element true) is = cc
 one_built (Bare element false) is = refl
 one_built (Bracket element true isotope chiral hydrogens charge class) is = let upper = is.upper in cc
 one_built (Bracket element false isotope (Some turn) hydrogens charge class) is = let plain = is.plain in cc
 one_built (Bracket element false isotope None hydrogens charge class) is = refl
-one_built (Bond mark) is = is
+one_built (Bond mark) is = mark_built mark is
 one_built (Ring number) is = refl
 one_built Enter is = refl
 one_built Leave is = refl
@@ -62,6 +77,25 @@ one_built Dot is = refl
 all_built : (ks : List TokenKind) → AreWritten ks → list_all is_built_kind ks ≡ true
 all_built [] are = refl
 all_built (k ∷ ks) are = rw (one_built k are.0, all_built ks are.1) refl
+
+-- and none is a lower-case atom or `:`
+
+mark_plain : (mark : BondMark) → is_written_mark mark ≡ true → is_plain (doing.Bond mark) ≡ true
+mark_plain Aromatic is = cc
+mark_plain _ is = refl
+
+one_plain : (kind : TokenKind) → IsWritten kind → is_plain (role_of kind) ≡ true
+one_plain (Bare element lower) is = ap not is.0
+one_plain (Bracket element lower isotope chiral hydrogens charge class) is = ap not is.upper
+one_plain (Bond mark) is = mark_plain mark is
+one_plain (Ring number) is = refl
+one_plain Enter is = refl
+one_plain Leave is = refl
+one_plain Dot is = refl
+
+plain_onto : (ks : List TokenKind) (before : List Role) → AreWritten ks → all_plain before ≡ true → all_plain (reverse_aux (map role_of ks) before) ≡ true
+plain_onto [] before are plain = plain
+plain_onto (k ∷ ks) before are plain = plain_onto ks (role_of k ∷ before) are.1 (rw (plain, one_plain k are.0) refl)
 
 -- the roles of tokens are those of their kinds
 roles_by_kind : (ts : List Token) → roles ts ≡ map role_of (map (λ token. token.kind) ts)
@@ -109,6 +143,7 @@ read_as m text structured are left same =
     record {
       nothing_left = left;
       built = sym (list_all-map is_built_kind (λ token. token.kind) (tokens text)) ∙ ap (list_all is_built_kind) same ∙ all_built (written_tokens m) are;
+      plain = ap (λ (rs : List Role). all_plain (reverse rs)) same_roles ∙ plain_onto (written_tokens m) [] are refl;
       reads = reads;
       count = count;
       same_atoms = λ k less.

@@ -1,11 +1,11 @@
 -- Two lists of bonds in which each pair stands equally often have equal sums.
 use Rattle.std.proofs.Common.{◌≡◌, ◌≢◌, ℕ, zero, suc, ◌+◌, ◌≤◌, ◌<◌, List, [], ◌∷◌, length, Bool, true, false, refl, ap, sym, ◌∙◌, inl, inr, arith}
 use Rattle.std.specs.Prelude.{◌==◌, ◌⊎◌, ◌&&◌, if◌then◌else◌}
-use Rattle.std.proofs.lemmas.Bool.{cases_eq, cases_lt}
+use Rattle.std.proofs.lemmas.Bool.{cases_eq, cases_lt, ne_eqb}
 use Rattle.mc_mol.specs.declared.parts.Bond.{Bond}
+use Rattle.mc_mol.proofs.Halves.{same_test}
 use Rattle.smi_write.proofs.Hits.{bit}
 use Rattle.smi_write.proofs.BondCounts.{hit, bond_count}
-use Rattle.smi_write.proofs.Least.{test_other, test_same}
 
 -- the sum of w over the bonds
 abbrev pub bonds_sum : (ℕ → ℕ → ℕ) → List Bond → ℕ
@@ -80,14 +80,14 @@ abbrev spot : (ℕ → ℕ → ℕ) → Bond → ℕ → ℕ → ℕ
 spot w b j l = if b.first.0 == j && b.second.0 == l then w j l else 0
 
 spot_here : (w : ℕ → ℕ → ℕ) (b : Bond) → spot w b b.first.0 b.second.0 ≡ w b.first.0 b.second.0
-spot_here w b = rw (test_same b.first.0, test_same b.second.0) refl
+spot_here w b = rw (same_test b.first.0, same_test b.second.0) refl
 
 spot_other : (w : ℕ → ℕ → ℕ) (b : Bond) (j l : ℕ) → (j ≢ b.first.0) ⊎ (l ≢ b.second.0) → spot w b j l ≡ 0
-spot_other w b j l (inl ne) = rw (test_other b.first.0 j (λ e. ne (sym e))) refl
+spot_other w b j l (inl ne) = rw (ne_eqb b.first.0 j (λ e. ne (sym e))) refl
 spot_other w b j l (inr ne) = by_first (b.first.0 == j)
   where
     by_first : (t : Bool) → (if t && b.second.0 == l then w j l else 0) ≡ 0
-    by_first true = rw (test_other b.second.0 l (λ e. ne (sym e))) refl
+    by_first true = rw (ne_eqb b.second.0 l (λ e. ne (sym e))) refl
     by_first false = refl
 
 pub sum_is : (w : ℕ → ℕ → ℕ) (n : ℕ) (bs : List Bond) → InRange n bs → bonds_sum w bs ≡ grid (λ j l. times (bond_count j l bs) (w j l)) n
@@ -115,7 +115,7 @@ length_is (b ∷ bs) = let h = length_is bs in omega arith
 pub in_range : (n : ℕ) (bs : List Bond) → ((j l : ℕ) → (l ≤ j) ⊎ (n ≤ l) → bond_count j l bs ≡ 0) → InRange n bs
 in_range n [] h = tt
 in_range n (b ∷ bs) h =
-    let here : hit b.first.0 b.second.0 b ≡ 1 = rw (test_same b.first.0, test_same b.second.0) refl in (
+    let here : hit b.first.0 b.second.0 b ≡ 1 = rw (same_test b.first.0, same_test b.second.0) refl in (
       elim (cases_lt b.first.0 b.second.0) [
         | inl less ↦ elim (cases_lt b.second.0 n) [
           | inl below ↦ (less, below)

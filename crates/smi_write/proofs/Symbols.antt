@@ -1,11 +1,11 @@
 -- Each bond that is read has its symbol.
 use Rattle.std.proofs.Common.{◌≡◌, ℕ, zero, suc, List, [], ◌∷◌, ◌++◌, Bool, true, false, refl, ap, ◌∙◌, Option, None}
 use Rattle.std.specs.Prelude.{◌==◌, nat_le, if◌then◌else◌}
+use Rattle.std.proofs.lemmas.Bool.{eqb-true}
 use Rattle.smi_lex.specs.declared.token.BondMark.{BondMark}
 use Rattle.smi_graph.specs.declared.text_bond.TextBond.{TextBond}
 use Rattle.smi_mean.specs.RingNumbers.{Pair, new_pair, opened, ending, kept, insert, sorted, partners, onto_all, active, closing}
 use Rattle.smi_write.proofs.RoleText.{links, parent_bond, bonds_from}
-use Rattle.smi_write.proofs.Least.{same_of}
 
 -- each bond has the symbol of its atoms' bond, at its first atom, and no other
 abbrev pub HasSymbols : (ℕ → ℕ → Option BondMark) → List TextBond → Type 0
@@ -27,7 +27,7 @@ ending_fits v k [] h = tt
 ending_fits v k (p ∷ ps) h = by_test (p.partner == k) refl (ending_fits v k ps h.1)
   where
     by_test : (t : Bool) → (p.partner == k) ≡ t → Ending v k (ending k ps) → Ending v k (if t then p ∷ ending k ps else ending k ps)
-    by_test true e r = (h.0 ∙ ap (v p.opener) (same_of p.partner k e), r)
+    by_test true e r = (h.0 ∙ ap (v p.opener) (eqb-true p.partner k e), r)
     by_test false e r = r
 
 kept_fits : (v : ℕ → ℕ → Option BondMark) (k : ℕ) (ps : List Pair) → Fitting v ps → Fitting v (kept k ps)

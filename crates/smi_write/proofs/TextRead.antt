@@ -1,10 +1,11 @@
 -- The roles of atoms with nested parents and ring bonds are read as these atoms, parents and ring bonds.
 use Rattle.std.proofs.Common.{◌≡◌, ℕ, zero, suc, ◌+◌, ◌≤◌, ◌<◌, List, [], ◌∷◌, ◌++◌, length, get_or, map, drop, Bool, true, false, Option, Some, None, refl, ap, sym, ◌∙◌, subst, inl, inr, arith}
 use Rattle.std.specs.Prelude.{◌==◌, ◌&&◌, not}
-use Rattle.std.proofs.lemmas.Bool.{cases_eq}
+use Rattle.std.proofs.lemmas.Bool.{cases_eq, ne_eqb}
 use Rattle.std.proofs.lemmas.List.{append-nil, append_assoc}
 use Rattle.smi_graph.specs.declared.text_bond.TextBond.{TextBond}
 use Rattle.std.specs.Prelude.{option_to_list}
+use Rattle.mc_mol.proofs.Halves.{same_test}
 use Rattle.smi_lex.specs.declared.token.BondMark.{BondMark}
 use Rattle.smi_graph.specs.declared.role.Role.{Role}
 use Rattle.smi_graph.specs.declared.role.Role.TheVariants.{Atom, Bond, Ring, Dot, Enter, Leave}
@@ -17,7 +18,6 @@ use Rattle.smi_graph.proofs.ReadingSteps.{open_behind}
 use Rattle.smi_mean.specs.RingNumbers.{Pair, has, onto_all, active, closing, opening}
 use Rattle.smi_write.specs.Nested.{IsNested}
 use Rattle.smi_write.proofs.Along.{Along}
-use Rattle.smi_write.proofs.Least.{test_other, test_same}
 use Rattle.smi_write.proofs.RoleText.{mark_roles, closed_roles, opened_roles, ring_roles, role_if_not, before_roles, text_roles, links, parent_bond, bonds_from}
 use Rattle.smi_write.proofs.RingSteps.{Agrees, rings_agree, rings_bonds, rings_clash, onto_append}
 use Rattle.smi_write.proofs.Shape.{nested_tail, no_gap, pending, pending_nil, pending_skip, pending_none, pending_top, pending_cut}
@@ -264,7 +264,7 @@ go_back : (v : ℕ → ℕ → Option BondMark) (r : ℕ → ℕ → Bool) (n p 
 go_back v r n p j qs bs before le gap at = elim (cases_eq p j) [
   | inl e ↦
       let s : pending j (suc p ∷ qs) ≡ pending p qs = pending_skip j (suc p) qs (λ q more below. omega arith) ∙ ap (λ (x : ℕ). pending x qs) (sym e) in
-      let t : (suc p == suc j) ≡ true = ap (λ (x : ℕ). suc x == suc j) e ∙ test_same (suc j) in
+      let t : (suc p == suc j) ≡ true = ap (λ (x : ℕ). suc x == suc j) e ∙ same_test (suc j) in
       rw t (record {
         read = read_pending (suc j) _ _ (active v r n (suc j)) bs before s at.read;
         last = subst (λ (x : ℕ). Last x before) (sym e) at.last;
@@ -276,7 +276,7 @@ go_back v r n p j qs bs before le gap at = elim (cases_eq p j) [
   | inr ne ↦
       let top : pending j (suc p ∷ qs) ≡ p ∷ pending p qs = pending_top j p qs (omega arith) (λ q more below. gap q more (omega arith)) in
       let left = leave p (suc j) (pending p qs) (active v r n (suc j)) bs before (read_pending (suc j) _ _ (active v r n (suc j)) bs before top at.read) (may before at.free (Some Leave)) in
-      rw (test_other (suc p) (suc j) (omega arith)) (record { read = left.0; last = left.1; may_enter = refl; follows = refl; marks = λ o. refl; bare = refl })
+      rw (ne_eqb (suc p) (suc j) (omega arith)) (record { read = left.0; last = left.1; may_enter = refl; follows = refl; marks = λ o. refl; bare = refl })
 ]
 
 -- ready for the mark of an atom whose parent is p

@@ -2,8 +2,9 @@
 use Rattle.std.proofs.Common.{◌≡◌, ℕ, suc, ◌+◌, ◌≤◌, ◌<◌, List, ◌∷◌, ◌++◌, length, map, drop, get_or, false, ap, sym, ◌∙◌, subst, arith}
 use Rattle.std.specs.Prelude.{flat_map}
 use Rattle.std.specs.List.{All}
-use Rattle.std.proofs.lemmas.List.{append_assoc, drop_more, length-map, get_or-map, get_or_default}
+use Rattle.std.proofs.lemmas.List.{append_assoc, length-map, get_or-map, get_or_default}
 use Rattle.std.proofs.lemmas.Grind.{flat_map-append}
+use Rattle.std.proofs.Math.Seq.{drop-cons}
 use Rattle.mc_base.specs.declared.ids.AtomId.{AtomId}
 use Rattle.mc_mol.specs.Molecule.{Molecule}
 use Rattle.smi_lex.specs.declared.token.TokenKind.{TokenKind}
@@ -22,9 +23,6 @@ use Rattle.smi_write.proofs.Walk.{order_nested, length_parents}
 use Rattle.smi_write.proofs.Once.{length_atoms}
 use Rattle.smi_write.proofs.Partners.{length_order, atom_found, at_below}
 
-first_of : {A : Type 0} (xs : List A) (k : ℕ) (d : A) → k < length xs → drop k xs ≡ get_or xs k d ∷ drop (suc k) xs
-first_of xs k d less = let one : k + 1 ≡ suc k = omega arith in drop_more xs k d less ∙ ap (λ (n : ℕ). get_or xs k d ∷ drop n xs) one
-
 -- the tokens of one atom and of those behind it
 abbrev pub TokensOf : Molecule → ℕ → List TokenKind
 TokensOf m k =
@@ -37,8 +35,8 @@ rest_step m k less =
     let len = length_atoms (order (graph_of m)) in
     let plen = length_parents (order (graph_of m)) in
     let tlen : length (map (atom_token m) (atoms (order (graph_of m)))) ≡ length (atoms (order (graph_of m))) = length-map (atoms (order (graph_of m))) (atom_token m) in
-    let t = first_of (map (atom_token m) (atoms (order (graph_of m)))) k (Bare C false) (omega arith) in
-    let p = first_of (parents (order (graph_of m))) k 0 (omega arith) in
+    let t = drop-cons (map (atom_token m) (atoms (order (graph_of m)))) k (Bare C false) (omega arith) in
+    let p = drop-cons (parents (order (graph_of m))) k 0 (omega arith) in
     let is = get_or-map (atom_token m) (atoms (order (graph_of m))) k 0 (Bare C false) (omega arith) in
     ap (λ (ts : List TokenKind). text_from (λ j l. bond_symbol (graph_of m) j l) (λ j l. has_ring (graph_of m) j l) (length m.atoms) k ts (drop k (parents (order (graph_of m)))))
     (t ∙ ap (λ (x : TokenKind). x ∷ drop (suc k) (map (atom_token m) (atoms (order (graph_of m))))) is)
@@ -76,7 +74,7 @@ pub pairs_step : (m : Molecule) (k : ℕ) (rings : List OpenRing) → Holds ring
     → Holds rings (open_pairs m (k + 1))
 pairs_step m k rings h = let one : suc k ≡ k + 1 = omega arith in subst (λ (n : ℕ). Holds rings (open_pairs m n)) one h
 
--- parents stand at earlier places
+-- parents stand at earlier ranks
 pub parents_low : (m : Molecule) (w : WrittenAtoms) (parent_list : List ℕ) → IsWrittenOrder m w → parent_list ≡ w.parents.items → (k : ℕ) → k < length parent_list → get_or parent_list k 0 ≤ length parent_list
 parents_low m w parent_list h e k less =
     let same : parent_list ≡ parents (order (graph_of m)) = e ∙ h.parents_are in

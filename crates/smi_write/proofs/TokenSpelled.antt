@@ -1,14 +1,14 @@
 -- A token of the written form is spelled as the grammar says.
 use Rattle.std.proofs.Common.{arith, ◌≡◌, ◌<◌, ◌≤◌, ◌==◌, ℕ, zero, suc, Bool, true, false, List, [], Option, Some, None, refl, inl, inr}
 use Rattle.std.specs.Prelude.{codes, ℤ, pos, negsuc, nat_abs, nat_lt}
-use Rattle.std.proofs.lemmas.Bool.{cases_Bool}
-use Rattle.std.proofs.lemmas.Bool.Decides.{nat_tests}
+use Rattle.std.proofs.lemmas.Bool.{cases_Bool, eqb-true, ltb-true, ltb-false}
 use Rattle.mc_elements.specs.Elements.{symbol}
 use Rattle.smi_lex.specs.declared.token.TokenKind.{TokenKind}
 use Rattle.smi_lex.specs.declared.token.TokenKind.TheVariants.{Bare, Bracket, Bond, Ring, Enter, Leave, Dot}
 use Rattle.smi_lex.specs.Grammar.{may_be_bare, Spells, SpellsAmount, SpellsCharge, SpellsClass, SpellsHydrogens, SpellsIsotope, SpellsRing}
 use Rattle.smi_lex.proofs.Written.{amount_written, class_written, hydrogens_written, isotope_written, ring_percent_written, ring_written}
-use Rattle.smi_graph.specs.Rules.{is_built_mark}
+use Rattle.smi_lex.specs.declared.token.BondMark.{BondMark}
+use Rattle.smi_lex.specs.declared.token.BondMark.TheVariants.{Double, Triple, Quadruple}
 use Rattle.smi_mean.specs.Written.{amount_text, charge_text, class_text, hydrogens_text, isotope_text, ring_text, spelling}
 
 -- a bracket that is written: in upper case, without chirality, and within the limits
@@ -20,37 +20,41 @@ pub record IsWrittenBracket (lower : Bool) (isotope : ℕ) (chiral : Option Bool
   pub low_charge : nat_abs charge ≤ 15
   pub low_class : class ≤ 999
 
+-- a symbol that the written form has
+abbrev pub is_written_mark : BondMark → Bool
+is_written_mark Double = true
+is_written_mark Triple = true
+is_written_mark Quadruple = true
+is_written_mark _ = false
+
 -- a token that the written form has
 abbrev pub IsWritten : TokenKind → Type 0
 IsWritten (Bare element lower) = (lower ≡ false) × (may_be_bare element lower ≡ true)
 IsWritten (Bracket element lower isotope chiral hydrogens charge class) = IsWrittenBracket lower isotope chiral hydrogens charge class
-IsWritten (Bond mark) = is_built_mark mark ≡ true
+IsWritten (Bond mark) = is_written_mark mark ≡ true
 IsWritten (Ring number) = number < 100
 IsWritten Enter = Unit {0}
 IsWritten Leave = Unit {0}
 IsWritten Dot = Unit {0}
 
-pub same_number : (n k : ℕ) → (n == k) ≡ true → n ≡ k
-same_number n k is = grind (arith, nat_tests)
-
 isotope_spelled : (n : ℕ) → n ≤ 999 → SpellsIsotope n (isotope_text n)
 isotope_spelled n few = elim (cases_Bool (n == 0)) [
-  | inl none ↦ rw none (inl (refl, same_number n 0 none))
+  | inl none ↦ rw none (inl (refl, eqb-true n 0 none))
   | inr some ↦ rw some (isotope_written n (omega arith))
 ]
 
 hydrogens_spelled : (n : ℕ) → n ≤ 9 → SpellsHydrogens n (hydrogens_text n)
 hydrogens_spelled n few = elim (cases_Bool (n == 0)) [
-  | inl none ↦ rw none (inl (refl, same_number n 0 none))
+  | inl none ↦ rw none (inl (refl, eqb-true n 0 none))
   | inr some ↦ elim (cases_Bool (n == 1)) [
-    | inl one ↦ rw (some, one) (inr (inl (refl, same_number n 1 one)))
+    | inl one ↦ rw (some, one) (inr (inl (refl, eqb-true n 1 one)))
     | inr more ↦ rw (some, more) (hydrogens_written n (omega arith))
   ]
 ]
 
 amount_spelled : (sign : List ℕ) (n : ℕ) → n ≤ 15 → SpellsAmount sign n (amount_text sign n)
 amount_spelled sign n few = elim (cases_Bool (n == 1)) [
-  | inl one ↦ rw one (inl (refl, same_number n 1 one))
+  | inl one ↦ rw one (inl (refl, eqb-true n 1 one))
   | inr more ↦ rw more (amount_written sign n (omega arith))
 ]
 
@@ -61,20 +65,14 @@ charge_spelled (negsuc n) few = inr (inr (suc n, refl, amount_spelled (codes "-"
 
 class_spelled : (n : ℕ) → n ≤ 999 → SpellsClass n (class_text n)
 class_spelled n few = elim (cases_Bool (n == 0)) [
-  | inl none ↦ rw none (inl (refl, same_number n 0 none))
+  | inl none ↦ rw none (inl (refl, eqb-true n 0 none))
   | inr some ↦ rw some (class_written n (omega arith))
 ]
 
-pub below : (n k : ℕ) → nat_lt n k ≡ true → n < k
-below n k is = grind (arith, nat_tests)
-
-above : (n k : ℕ) → nat_lt n k ≡ false → k ≤ n
-above n k is = grind (arith, nat_tests)
-
 ring_spelled : (n : ℕ) → n < 100 → SpellsRing n (ring_text n)
 ring_spelled n few = elim (cases_Bool (nat_lt n 10)) [
-  | inl small ↦ rw small (ring_written n (below n 10 small))
-  | inr large ↦ rw large (ring_percent_written n (above n 10 large) few)
+  | inl small ↦ rw small (ring_written n (ltb-true n 10 small))
+  | inr large ↦ rw large (ring_percent_written n (ltb-false n 10 large) few)
 ]
 
 pub token_spelled : (kind : TokenKind) → IsWritten kind → Spells kind (spelling kind)

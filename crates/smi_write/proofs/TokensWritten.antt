@@ -1,12 +1,12 @@
 -- The tokens of a molecule within the limits are tokens of the written form.
 use Rattle.smi_mean.specs.Written.{at}
 use Rattle.std.specs.Prelude.{true}
-use Rattle.smi_graph.specs.Rules.{is_built_mark}
 use Rattle.std.proofs.Common.{arith, ◌≡◌, ◌<◌, ℕ, suc, false, List, [], ◌∷◌, Option, Some, None, refl, inl, inr}
 use Rattle.std.specs.Prelude.{Contains, slice_get}
 use Rattle.std.proofs.lemmas.Bool.{cases_Bool, and_parts}
 use Rattle.mc_mol.specs.declared.parts.Atom.{Atom}
 use Rattle.mc_mol.specs.Molecule.{Molecule, bond_sum}
+use Rattle.mc_mol.specs.Limits.{IsAtomWithinLimits}
 use Rattle.smi_lex.specs.Grammar.{may_be_bare}
 use Rattle.smi_lex.specs.declared.token.TokenKind.{TokenKind}
 use Rattle.smi_lex.specs.declared.token.TokenKind.TheVariants.{Bare, Bracket, Bond, Ring, Enter, Leave, Dot}
@@ -14,10 +14,10 @@ use Rattle.smi_graph.specs.declared.role.Role.TheVariants as doing
 use Rattle.smi_graph.specs.Roles.{role_of}
 use Rattle.smi_mean.specs.Order.{Graph, graph_of, order, atoms, parents}
 use Rattle.smi_mean.specs.RingNumbers.{opening}
-use Rattle.smi_mean.specs.Sound.{IsSound, IsWithinLimits}
+use Rattle.smi_mean.specs.Sound.{IsSound}
 use Rattle.smi_mean.specs.Written.{atom_token, bond_symbol, has_ring, is_bare, token_in, token_of, written_tokens}
 use Rattle.smi_write.proofs.EachToken.{Each, HoldsBetween, any_numbers, each_written, symbol_fits}
-use Rattle.smi_write.proofs.TokenSpelled.{IsWritten}
+use Rattle.smi_write.proofs.TokenSpelled.{is_written_mark, IsWritten}
 use Rattle.smi_write.proofs.KindsRead.{AreWritten}
 
 -- a token that the written form has, if its ring number is one
@@ -30,12 +30,12 @@ IsShaped Enter = Unit {0}
 IsShaped Leave = Unit {0}
 IsShaped Dot = Unit {0}
 
-shaped_between : HoldsBetween IsShaped (λ mark. is_built_mark mark ≡ true) (λ n. Unit {0})
+shaped_between : HoldsBetween IsShaped (λ mark. is_written_mark mark ≡ true) (λ n. Unit {0})
 shaped_between = record { mark = λ mark is. is; ring = λ number is. tt; enter = tt; leave = tt; dot = tt }
 
 -- the token of an atom
 
-shaped_atom : (atom : Atom) (sum : ℕ) → IsWithinLimits atom → IsShaped (token_of atom sum)
+shaped_atom : (atom : Atom) (sum : ℕ) → IsAtomWithinLimits atom → IsShaped (token_of atom sum)
 shaped_atom atom sum within = elim (cases_Bool (is_bare atom sum)) [
   | inl bare ↦ rw bare (refl, (and_parts (may_be_bare atom.element false) _ bare).0)
   | inr bracket ↦ rw bracket record {
@@ -48,7 +48,7 @@ shaped_atom atom sum within = elim (cases_Bool (is_bare atom sum)) [
   }
 ]
 
-shaped_in : (found : Option Atom) (sum : ℕ) → ((atom : Atom) → found ≡ Some atom → IsWithinLimits atom) → IsShaped (token_in found sum)
+shaped_in : (found : Option Atom) (sum : ℕ) → ((atom : Atom) → found ≡ Some atom → IsAtomWithinLimits atom) → IsShaped (token_in found sum)
 shaped_in None sum within = (refl, refl)
 shaped_in (Some atom) sum within = shaped_atom atom sum (within atom refl)
 
@@ -90,6 +90,6 @@ pub tokens_written : (m : Molecule) → IsSound m → RingsFit (written_tokens m
 tokens_written m sound fit =
     let g : Graph = graph_of m in
     all_written (written_tokens m)
-    (each_written IsShaped (λ mark. is_built_mark mark ≡ true) (λ n. Unit {0}) (λ j l. bond_symbol g j l) (λ j l. has_ring g j l) g.count 0 (atom_token m) (atoms (order g)) (parents (order g))
-    shaped_between (λ j l. symbol_fits (λ mark. is_built_mark mark ≡ true) (g.order (at g j) (at g l)) refl refl refl) (λ k. any_numbers (opening (λ j l. bond_symbol g j l) (λ j l. has_ring g j l) g.count k))
-    (λ u. shaped_in (slice_get m.atoms u) (bond_sum m.bonds u) (sound.atoms u))) fit
+    (each_written IsShaped (λ mark. is_written_mark mark ≡ true) (λ n. Unit {0}) (λ j l. bond_symbol g j l) (λ j l. has_ring g j l) g.count 0 (atom_token m) (atoms (order g)) (parents (order g))
+    shaped_between (λ j l. symbol_fits (λ mark. is_written_mark mark ≡ true) (g.order (at g j) (at g l)) refl refl refl) (λ k. any_numbers (opening (λ j l. bond_symbol g j l) (λ j l. has_ring g j l) g.count k))
+    (λ u. shaped_in (slice_get m.atoms u) (bond_sum m.bonds u) (sound.within.atoms u))) fit

@@ -1,8 +1,7 @@
 -- The roles in which a graph is written are read as this graph.
-use Rattle.std.proofs.Common.{◌≡◌, ℕ, zero, suc, ◌+◌, ◌-◌, ◌≤◌, ◌<◌, List, [], ◌∷◌, ◌++◌, length, get_or, Bool, true, false, Option, Some, None, refl, ap, sym, ◌∙◌, subst, inl, inr, arith}
-use Rattle.std.specs.Prelude.{◌==◌, ◌⊎◌, ◌&&◌, ◌||◌, not}
-use Rattle.std.proofs.lemmas.Bool.{cases_lt}
-use Rattle.std.proofs.lemmas.List.{get_or_push, get_or_append_left}
+use Rattle.std.proofs.Common.{◌≡◌, ℕ, zero, suc, ◌+◌, ◌-◌, ◌≤◌, ◌<◌, List, [], ◌∷◌, length, get_or, Bool, true, false, Option, Some, None, refl, ap, sym, ◌∙◌, subst, inl, inr, arith}
+use Rattle.std.specs.Prelude.{◌==◌, ◌⊎◌, ◌&&◌, not}
+use Rattle.std.proofs.lemmas.Bool.{cases_lt, or_from, ne_eqb, eqb-true}
 use Rattle.smi_lex.specs.declared.token.BondMark.{BondMark}
 use Rattle.smi_graph.specs.declared.text_bond.TextBond.{TextBond}
 use Rattle.std.specs.Prelude.{option_to_list}
@@ -15,8 +14,9 @@ use Rattle.smi_graph.specs.Order.{depth, may_follow, latest, is_misplaced}
 use Rattle.smi_graph.specs.Bonds.{atom_count, mark_of, ring_end, open_end, text_bond, ring_bond, completed, text_bonds}
 use Rattle.smi_graph.specs.Links.{bonds_of}
 use Rattle.mc_mol.specs.declared.parts.Bond.{Bond}
+use Rattle.mc_mol.proofs.Halves.{same_test}
 use Rattle.smi_graph.specs.RingRules.{is_clash, pairs_again, is_pair_again}
-use Rattle.smi_mean.specs.Order.{Graph, Step, order, place, parent_place, parents, atoms}
+use Rattle.smi_mean.specs.Order.{Graph, order, parents, atoms}
 use Rattle.smi_mean.specs.RingNumbers.{onto_all, active}
 use Rattle.smi_mean.specs.Written.{at, has_ring}
 use Rattle.smi_write.specs.Nested.{IsNested}
@@ -24,43 +24,13 @@ use Rattle.smi_write.proofs.Along.{Along}
 use Rattle.smi_write.proofs.RingLaw.{opening_of}
 use Rattle.smi_write.proofs.RoleText.{text_roles, bonds_from}
 use Rattle.smi_write.proofs.Symbols.{HasSymbols, has_symbols}
-use Rattle.smi_write.proofs.Least.{test_other, test_same, same_of}
-use Rattle.smi_write.proofs.Walk.{Grown, grown, place_le, length_parents, nested}
-use Rattle.smi_write.proofs.Once.{length_steps, length_atoms, at_place}
+use Rattle.smi_write.proofs.Walk.{grown, length_parents, nested}
+use Rattle.smi_write.proofs.Once.{length_steps}
 use Rattle.smi_write.proofs.Hits.{bit, closing_count, closing_none, active_end}
 use Rattle.smi_write.proofs.BondCounts.{bond_count, text_count, text_append, count_at, count_above}
 use Rattle.smi_write.proofs.TextRead.{whole_read}
 use Rattle.smi_write.proofs.Pairs.{opener}
-
--- an atom's parent is joined to it
-parent_joined : (g : Graph) (before : List Step) (j l : ℕ) → Grown g before → l < length before → get_or (parents before) l 0 ≡ suc j
-    → g.joined (get_or (atoms before) j 0) (get_or (atoms before) l 0) ≡ true
-parent_joined g [] j l h less e = absurd (omega arith)
-parent_joined g (s ∷ before) j l h less e =
-    let lenp = length_parents before in
-    let lena = length_atoms before in
-    elim (cases_lt l (length before)) [
-      | inl lt ↦
-          let frontp = get_or_append_left (parents before) (parent_place before s.parent ∷ []) 0 l (omega arith) in
-          let nest = nested g before h.0 in
-          let early = nest.earlier l (omega arith) in
-          let frontj = get_or_append_left (atoms before) (s.atom ∷ []) 0 j (omega arith) in
-          let frontl = get_or_append_left (atoms before) (s.atom ∷ []) 0 l (omega arith) in
-          ap (λ (x : ℕ). g.joined x (get_or (atoms before ++ s.atom ∷ []) l 0)) frontj ∙ ap (g.joined (get_or (atoms before) j 0)) frontl
-          ∙ parent_joined g before j l h.0 lt (sym frontp ∙ e)
-      | inr ge ↦
-          let lastp = get_or_push (parents before) (parent_place before s.parent) 0 l (omega arith) in
-          let lastl = get_or_push (atoms before) s.atom 0 l (omega arith) in
-          elim h.1.parent [
-            | inl none ↦ let z : parent_place before s.parent ≡ 0 = ap (parent_place before) none in absurd (omega arith)
-            | inr some ↦
-                let (p, r) = some in
-                let z : place before p ≡ suc j = sym (ap (parent_place before) r.is) ∙ sym lastp ∙ e in
-                let le = place_le before p in
-                let frontj = get_or_append_left (atoms before) (s.atom ∷ []) 0 j (omega arith) in
-                ap (λ (x : ℕ). g.joined x (get_or (atoms before ++ s.atom ∷ []) l 0)) (frontj ∙ at_place before p j z) ∙ ap (g.joined p) lastl ∙ r.joined
-          ]
-    ]
+use Rattle.smi_write.proofs.PartsLow.{parent_at}
 
 -- a bond is a parent bond or a ring bond
 both_bits : (a b : Bool) → (b ≡ true → a ≡ true) → bit b + bit (a && not b) ≡ bit a
@@ -84,11 +54,7 @@ once_before before k h = record {
 }
 
 own_count : (j l : ℕ) (opening closing : Option BondMark) → text_count j l (text_bond j l opening closing ∷ []) ≡ 1
-own_count j l opening closing = rw (test_same j, test_same l) refl
-
-or_none : (a b : Bool) → a ≡ false → b ≡ false → (a || b) ≡ false
-or_none true b e f = e
-or_none false b e f = f
+own_count j l opening closing = rw (same_test j, same_test l) refl
 
 bit_none : (b : Bool) → bit b ≡ 0 → b ≡ false
 bit_none true h = absurd (omega arith)
@@ -98,8 +64,8 @@ bit_none false h = refl
 pub not_joined : (bs : List Bond) (j l : ℕ) → bond_count j l bs ≡ 0 → bond_count l j bs ≡ 0 → are_joined bs j l ≡ false
 not_joined [] j l h k = refl
 not_joined (b ∷ bs) j l h k =
-    or_none (joins b j l) (are_joined bs j l)
-    (or_none (b.first.0 == j && b.second.0 == l) (b.first.0 == l && b.second.0 == j) (bit_none _ (omega arith)) (bit_none _ (omega arith)))
+    or_from (joins b j l) (are_joined bs j l)
+    (or_from (b.first.0 == j && b.second.0 == l) (b.first.0 == l && b.second.0 == j) (bit_none _ (omega arith)) (bit_none _ (omega arith)))
     (not_joined bs j l (omega arith) (omega arith))
 
 ring_apart : (n : ℕ) (before : List Role) → Once (text_bonds (Ring n ∷ before)) → is_pair_again before (Some (Ring n)) ≡ false
@@ -117,7 +83,7 @@ ring_apart n before h = by_end (open_end n before) refl
         elim (cases_lt j l) [
           | inl less ↦
               let back = (once_before before (Ring n) h).rising l j (omega arith) in
-              or_none (j == l) (are_joined (bonds_of before) j l) (test_other j l (omega arith)) (not_joined (bonds_of before) j l (omega arith) back)
+              or_from (j == l) (are_joined (bonds_of before) j l) (ne_eqb j l (omega arith)) (not_joined (bonds_of before) j l (omega arith) back)
           | inr more ↦ let z = h.rising j l more in absurd (omega arith)
         ]
 
@@ -148,13 +114,13 @@ bonds_are g v =
           count_at v r n j l 0 l qs (omega arith) (omega arith)
           ∙ ap (λ (x : ℕ). bit (get_or qs l 0 == suc j) + x) (closing_count v r n j l less below)
           ∙ both_bits (g.joined (at g j) (at g l)) (get_or qs l 0 == suc j)
-          (λ t. parent_joined g (order g) j l (grown g g.count) (omega arith) (same_of (get_or qs l 0) (suc j) t)),
+          (λ t. (parent_at g l j below (eqb-true (get_or qs l 0) (suc j) t)).1),
       λ j l side. elim (cases_lt l n) [
         | inl below ↦ elim side [
           | inl le ↦
               let nest = nested g (order g) (grown g g.count) in
               let early = nest.earlier l (omega arith) in
-              let e : bit (get_or qs l 0 == suc j) ≡ 0 = ap bit (test_other (get_or qs l 0) (suc j) (omega arith)) in
+              let e : bit (get_or qs l 0 == suc j) ≡ 0 = ap bit (ne_eqb (get_or qs l 0) (suc j) (omega arith)) in
               let c = closing_none v r n j l le in
               count_at v r n j l 0 l qs (omega arith) (omega arith) ∙ omega arith
           | inr above ↦ absurd (omega arith)
@@ -179,7 +145,7 @@ counted_once g bs h = record {
 abbrev pub graph_roles : Graph → (ℕ → ℕ → Option BondMark) → List Role
 graph_roles g v = text_roles v (λ j l. has_ring g j l) g.count 0 (parents (order g))
 
--- These roles, the latest first, are read as the graph with its atoms numbered by their places.
+-- These roles, the latest first, are read as the graph with its atoms numbered by their ranks.
 pub record IsReadAs (g : Graph) (v : ℕ → ℕ → Option BondMark) (whole : List Role) : Type 0 where
   pub counted : atom_count whole ≡ g.count
   pub placed : Along is_misplaced whole

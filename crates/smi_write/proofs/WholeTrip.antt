@@ -26,7 +26,7 @@ structured_of m is sound =
     let symbols : ℕ → ℕ → Option BondMark = λ j l. bond_symbol (graph_of m) j l in
     let reads : ReadsAs m symbols (map role_of (written_tokens m)) = structure m symbols is (symbols_say m is) (atom_token m) (role_of_atom m) in
     let fewer = rings_low m is (bonds_of (reverse (map role_of (written_tokens m)))) reads.count reads.joined in
-    let few = sound.rings in
+    let few = sound.within.rings in
     record {
       reads = reads;
       order = is_order m;

@@ -11,7 +11,7 @@ use Rattle.smi_write.specs.OpenRings.{Holds}
 abbrev pub opened_pairs : Molecule → List Pair → ℕ → List ℕ → List Pair
 opened_pairs m pairs k ls = opened (λ j l. bond_symbol (graph_of m) j l) pairs k ls
 
--- the partners of atom k's ring bonds behind a place
+-- the partners of atom k's ring bonds above a rank
 abbrev pub later_partners : Molecule → ℕ → ℕ → List ℕ
 later_partners m k above = passing (λ l. nat_lt above l && has_ring (graph_of m) k l) (length m.atoms)
 

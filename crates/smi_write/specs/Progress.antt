@@ -4,7 +4,7 @@ use Rattle.mc_base.specs.declared.ids.AtomId.{AtomId}
 use Rattle.mc_mol.specs.declared.parts.HalfEdge.{HalfEdge}
 use Rattle.mc_mol.specs.Molecule.{Molecule}
 use Rattle.mc_mol.specs.HalfEdges.{half_edges}
-use Rattle.smi_mean.specs.Order.{Graph, graph_of, Step, unwritten_neighbour, steps, place, parents, atoms}
+use Rattle.smi_mean.specs.Order.{Graph, graph_of, Step, unwritten_neighbour, steps, rank, parents, atoms}
 use Rattle.smi_write.specs.declared.order.Walk.{Walk}
 use Rattle.smi_write.specs.Seen.{leads_back}
 use Rattle.smi_write.specs.WrittenOrder.{parent_orders}
@@ -16,27 +16,27 @@ Stacked g written (s ∷ others) stack =
     ((unwritten_neighbour g written s.atom ≡ None) × Stacked g written others stack)
     ⊎ ((us : List ℕ) × (stack ≡ s.atom ∷ us) × Stacked g written others us)
 
--- the lists that are kept behind these steps: atoms and parents in the written order, and the place of each atom
-pub record HoldsSteps (g : Graph) (before : List Step) (atom_list : List AtomId) (parent_list place_list stack : List ℕ) : Type 0 where
+-- the lists that are kept behind these steps: atoms and parents in the written order, and the rank of each atom
+pub record HoldsSteps (g : Graph) (before : List Step) (atom_list : List AtomId) (parent_list rank_list stack : List ℕ) : Type 0 where
   pub atoms_are : atom_list ≡ map (λ u. record { 0 = u }) (atoms before)
   pub parents_are : parent_list ≡ parents before
-  pub count : length place_list ≡ g.count
-  pub places_are : (u : ℕ) → u < g.count → get_or place_list u 0 ≡ place before u
+  pub count : length rank_list ≡ g.count
+  pub ranks_are : (u : ℕ) → u < g.count → get_or rank_list u 0 ≡ rank before u
   pub stacked : Stacked g before before (reverse stack)
 
--- Each ring bond that leads back from a written atom has its earlier end marked, by its place from 0; those of the atom
+-- Each ring bond that leads back from a written atom has its earlier end marked, by its rank from 0; those of the atom
 -- above the stack aren't looked for yet.
-pub record HoldsMarks (m : Molecule) (parent_list place_list above : List ℕ) (opens : List Bool) : Type 0 where
+pub record HoldsMarks (m : Molecule) (parent_list rank_list above : List ℕ) (opens : List Bool) : Type 0 where
   pub count : length opens ≡ length m.atoms
-  pub marked : (v i : ℕ) (half : HalfEdge) → v < length m.atoms → 0 < get_or place_list v 0 → (above ≡ v ∷ [] → ⊥) → slice_get (half_edges m v) i ≡ Some half
-      → leads_back (get_or place_list v 0) (get_or parent_list (get_or place_list v 0 - 1) 0) (get_or place_list half.to.0 0) ≡ true
-      → get_or opens (get_or place_list half.to.0 0 - 1) false ≡ true
+  pub marked : (v i : ℕ) (half : HalfEdge) → v < length m.atoms → 0 < get_or rank_list v 0 → (above ≡ v ∷ [] → ⊥) → slice_get (half_edges m v) i ≡ Some half
+      → leads_back (get_or rank_list v 0) (get_or parent_list (get_or rank_list v 0 - 1) 0) (get_or rank_list half.to.0 0) ≡ true
+      → get_or opens (get_or rank_list half.to.0 0 - 1) false ≡ true
 
 -- the first steps are written, with these atoms above the stack
 pub record IsWalkWith (m : Molecule) (w : Walk) (more : List ℕ) : Type 0 where
-  pub holds : HoldsSteps (graph_of m) (steps (graph_of m) (length w.atoms.items)) w.atoms.items w.parents.items w.places.items (w.stack.items ++ more)
+  pub holds : HoldsSteps (graph_of m) (steps (graph_of m) (length w.atoms.items)) w.atoms.items w.parents.items w.ranks.items (w.stack.items ++ more)
   pub orders_are : w.orders.items ≡ parent_orders (graph_of m) (steps (graph_of m) (length w.atoms.items))
-  pub marks : HoldsMarks m w.parents.items w.places.items more w.opens.items
+  pub marks : HoldsMarks m w.parents.items w.ranks.items more w.opens.items
 
 -- What is left to do, with these atoms above the stack: an atom comes onto the stack at most once behind each one that is
 -- written, and is taken off once.

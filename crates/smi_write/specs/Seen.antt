@@ -9,10 +9,10 @@ use Rattle.smi_write.specs.declared.order.Seen.{Seen}
 abbrev pub nothing : Seen
 nothing = record { some = false; more = false; back = false; least = 0; bond = record { 0 = 0 } }
 
--- Whether a ring bond leads from the atom at a place, which has this parent, back to the atom at another one: that is
--- written before it and isn't its parent. All are places from 1.
+-- Whether a ring bond leads from the atom of a rank, which has this parent, back to the atom at another one: that is
+-- written before it and isn't its parent. All are ranks from 1.
 abbrev pub leads_back : ℕ → ℕ → ℕ → Bool
-leads_back place parent at = nat_lt 0 at && (nat_lt at place && not (at == parent))
+leads_back rank parent at = nat_lt 0 at && (nat_lt at rank && not (at == parent))
 
 -- one half-edge more, which leads to an unwritten atom or not, and back by a ring bond or not
 abbrev pub see : Seen → HalfEdge → Bool → Bool → Seen
@@ -24,20 +24,20 @@ see found half free back = record {
   bond = if free && (not found.some || nat_lt half.to.0 found.least) then half.bond else found.bond;
 }
 
--- these half-edges more of the atom at a place, by the places of the atoms
+-- these half-edges more of the atom of a rank, by the ranks of the atoms
 abbrev pub see_all : ℕ → ℕ → List ℕ → Seen → List HalfEdge → Seen
-see_all place parent places found [] = found
-see_all place parent places found (half ∷ halves) =
-    see_all place parent places (see found half (get_or places half.to.0 0 == 0) (leads_back place parent (get_or places half.to.0 0))) halves
+see_all rank parent ranks found [] = found
+see_all rank parent ranks found (half ∷ halves) =
+    see_all rank parent ranks (see found half (get_or ranks half.to.0 0 == 0) (leads_back rank parent (get_or ranks half.to.0 0))) halves
 
--- An atom to which a ring bond leads back from the atom at a place is marked, by its place from 0.
+-- An atom to which a ring bond leads back from the atom of a rank is marked, by its rank from 0.
 abbrev pub mark_one : ℕ → ℕ → List ℕ → List Bool → HalfEdge → List Bool
-mark_one place parent places opens half =
-    if leads_back place parent (get_or places half.to.0 0) then slice_set opens (get_or places half.to.0 0 - 1) true else opens
+mark_one rank parent ranks opens half =
+    if leads_back rank parent (get_or ranks half.to.0 0) then slice_set opens (get_or ranks half.to.0 0 - 1) true else opens
 
 abbrev pub mark_all : ℕ → ℕ → List ℕ → List Bool → List HalfEdge → List Bool
-mark_all place parent places opens [] = opens
-mark_all place parent places opens (half ∷ halves) = mark_all place parent places (mark_one place parent places opens half) halves
+mark_all rank parent ranks opens [] = opens
+mark_all rank parent ranks opens (half ∷ halves) = mark_all rank parent ranks (mark_one rank parent ranks opens half) halves
 
 -- the least unwritten neighbour
 abbrev pub least_seen : Seen → Option ℕ

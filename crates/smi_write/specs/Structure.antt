@@ -13,11 +13,11 @@ use Rattle.smi_graph.specs.RingRules.{clash_at, pair_again_at}
 use Rattle.smi_mean.specs.Order.{graph_of, order_between}
 use Rattle.smi_mean.specs.Written.{at}
 
--- the symbols of bonds, by the places of their atoms, say the orders of the molecule's bonds
+-- the symbols of bonds, by the ranks of their atoms, say the orders of the molecule's bonds
 abbrev pub SayOrders : Molecule → (ℕ → ℕ → Option BondMark) → Type 0
 SayOrders m symbols = (j l : ℕ) → order_of (symbols j l) ≡ order_between m.bonds (at (graph_of m) j) (at (graph_of m) l)
 
--- These tokens are read as the molecule, with its atoms numbered by their places in the text: no token is wrong, and
+-- These tokens are read as the molecule, with its atoms numbered by their ranks in the text: no token is wrong, and
 -- the bonds are those of the molecule, each with its symbol at the atom that stands first.
 pub record ReadsAs (m : Molecule) (symbols : ℕ → ℕ → Option BondMark) (ks : List Role) : Type 0 where
   pub placed : (i : ℕ) → i ≤ length ks → misplaced_at ks i ≡ false

@@ -2,7 +2,7 @@
 use Rattle.std.specs.Prelude.{◌≡◌, ℕ, ◌+◌, ◌-◌, ◌<◌, ◌≤◌, Bool, true, false, ◌&&◌, not, ◌==◌, nat_lt, List, [], ◌∷◌, ◌++◌, Option, Some, None, length, map, take, drop, get_or}
 use Rattle.mc_mol.specs.declared.parts.HalfEdge.{HalfEdge}
 use Rattle.mc_mol.specs.Molecule.{Molecule}
-use Rattle.smi_mean.specs.Order.{Graph, graph_of, Step, order, place, parents, atoms}
+use Rattle.smi_mean.specs.Order.{Graph, graph_of, Step, order, rank, parents, atoms}
 use Rattle.smi_mean.specs.RingNumbers.{has}
 use Rattle.smi_mean.specs.Written.{has_ring}
 use Rattle.smi_write.specs.declared.order.WrittenAtoms.{WrittenAtoms}
@@ -17,27 +17,27 @@ abbrev pub parent_orders : Graph → List Step → List ℕ
 parent_orders g [] = []
 parent_orders g (s ∷ before) = parent_orders g before ++ order_behind g s.parent s.atom ∷ []
 
--- the atoms, their parents and the bonds to these by place, the place of each atom, and which atoms open ring numbers
+-- the atoms, their parents and the bonds to these by rank, the rank of each atom, and which atoms open ring numbers
 pub record IsWrittenOrder (m : Molecule) (w : WrittenAtoms) : Type 0 where
   pub atoms_are : w.atoms.items ≡ map (λ u. record { 0 = u }) (atoms (order (graph_of m)))
   pub parents_are : w.parents.items ≡ parents (order (graph_of m))
   pub orders_are : w.orders.items ≡ parent_orders (graph_of m) (order (graph_of m))
-  pub places_are : (u : ℕ) → u < length m.atoms → get_or w.places.items u 0 ≡ place (order (graph_of m)) u
-  pub place_count : length w.places.items ≡ length m.atoms
+  pub ranks_are : (u : ℕ) → u < length m.atoms → get_or w.ranks.items u 0 ≡ rank (order (graph_of m)) u
+  pub rank_count : length w.ranks.items ≡ length m.atoms
   pub count : length w.atoms.items ≡ length m.atoms
   pub open_count : length w.opens.items ≡ length m.atoms
   pub opens_are : (j l : ℕ) → j < l → l < length m.atoms → has_ring (graph_of m) j l ≡ true → get_or w.opens.items j false ≡ true
 
--- the place, from 0, to which a half-edge leads
-abbrev pub place_behind : List ℕ → HalfEdge → ℕ
-place_behind places half = get_or places half.to.0 0 - 1
+-- the rank, from 0, to which a half-edge leads
+abbrev pub rank_behind : List ℕ → HalfEdge → ℕ
+rank_behind ranks half = get_or ranks half.to.0 0 - 1
 
--- A half-edge of the atom at place k leads to a later place than a given one, and its bond isn't the one to a child.
+-- A half-edge of the atom of rank k leads to a later rank than a given one, and its bond isn't the one to a child.
 abbrev pub opens_ring : List ℕ → List ℕ → ℕ → ℕ → HalfEdge → Bool
-opens_ring places parents k above half =
-    nat_lt (above + 1) (get_or places half.to.0 0) && not (get_or parents (place_behind places half) 0 == k + 1)
+opens_ring ranks parents k above half =
+    nat_lt (above + 1) (get_or ranks half.to.0 0) && not (get_or parents (rank_behind ranks half) 0 == k + 1)
 
--- For each place of a parent, from 1, the greatest place of one of its children among the first n atoms: a later child
+-- For each rank of a parent, from 1, the greatest rank of one of its children among the first n atoms: a later child
 -- of this parent is to come as long as it isn't reached.
 pub record LastChildren (parent_list : List ℕ) (n : ℕ) (last : List ℕ) : Type 0 where
   pub count : length last ≡ length parent_list + 1

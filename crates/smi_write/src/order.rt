@@ -1,5 +1,5 @@
 //! The order in which the atoms of a molecule are written: a walk with a stack, which goes on behind the
-//! latest atom that has an unwritten neighbour. It finds by the way what the text asks for by place.
+//! latest atom that has an unwritten neighbour. It finds by the way what the text asks for by rank.
 
 ghost use Rattle.std.specs.List.{list_any};
 ghost use Rattle.std.specs.Prelude.{◌≡◌, ◌++◌, [], ◌∷◌, ◌+◌, ◌-◌, ◌^◌, ◌<◌, ◌≤◌, ℕ, All, OnOk, IfOk, length, slice_set, slice_index_or, None, option_to_list, if◌then◌else◌};
@@ -16,15 +16,15 @@ use std::alloc::Global;
 /// How far the atoms are written.
 #[derive(Drop)]
 struct Walk {
-    /// the atoms by place
+    /// the atoms by rank
     atoms: Vec<AtomId>,
-    /// by place, the place of the atom's parent, from 1, or 0
+    /// by rank, the rank of the atom's parent, from 1, or 0
     parents: Vec<u32>,
-    /// by place, the order of the bond to the atom's parent
+    /// by rank, the order of the bond to the atom's parent
     orders: Vec<u8>,
-    /// the place of each atom, from 1, or 0 where it isn't written
-    places: Vec<u32>,
-    /// by place, whether a ring bond leads to a later atom
+    /// the rank of each atom, from 1, or 0 where it isn't written
+    ranks: Vec<u32>,
+    /// by rank, whether a ring bond leads to a later atom
     opens: Vec<bool>,
     /// the written atoms that may have unwritten neighbours, the latest last
     stack: Vec<u32>,
@@ -33,16 +33,16 @@ struct Walk {
 impl Walk {
     /// Writes an atom behind the others.
     fn write(&mut self, atom: u32, parent: u32, order: u8) -> Result<(), NoMemory>
-        requires within { atom < length self.old.places.items }
+        requires within { atom < length self.old.ranks.items }
         requires few { length self.old.atoms.items < 2 ^ 32 - 1 }
         ensures atoms { OnOk result (self.new.atoms.items ≡ self.old.atoms.items ++ record { 0 = atom } ∷ []) }
         ensures parents { OnOk result (self.new.parents.items ≡ self.old.parents.items ++ parent ∷ []) }
         ensures orders { OnOk result (self.new.orders.items ≡ self.old.orders.items ++ order ∷ []) }
-        ensures places { OnOk result (self.new.places.items ≡ slice_set self.old.places.items atom (length self.old.atoms.items + 1)) }
+        ensures ranks { OnOk result (self.new.ranks.items ≡ slice_set self.old.ranks.items atom (length self.old.atoms.items + 1)) }
         ensures opens { OnOk result (self.new.opens.items ≡ self.old.opens.items) }
         ensures stack { OnOk result (self.new.stack.items ≡ self.old.stack.items) }
     {
-        self.places[atom as usize] = self.atoms.len() as u32 + 1;
+        self.ranks[atom as usize] = self.atoms.len() as u32 + 1;
         self.atoms.push(AtomId(atom))?;
         self.parents.push(parent)?;
         self.orders.push(order)?;
@@ -55,20 +55,20 @@ impl Walk {
         requires walk { IsWalkWith mol.now self.old (atom ∷ []) }
         ensures walk { IsWalkWith mol.now self.new (atom ∷ []) }
         ensures seen { Sees mol.now (steps (graph_of mol.now) (length self.new.atoms.items)) atom result }
-        ensures marks { HoldsMarks mol.now self.new.parents.items self.new.places.items [] self.new.opens.items }
+        ensures marks { HoldsMarks mol.now self.new.parents.items self.new.ranks.items [] self.new.opens.items }
         ensures left { left mol.now self.new (atom ∷ []) ≡ left mol.now self.old (atom ∷ []) }
-        ensures kept { self.new.places ≡ self.old.places }
+        ensures kept { self.new.ranks ≡ self.old.ranks }
     {
         let halves = mol.bonds_of(AtomId(atom));
-        let place = self.places[atom as usize];
-        let parent = self.parents[place as usize - 1];
-        let found = neighbours_seen(halves, &self.places, place, parent);
+        let rank = self.ranks[atom as usize];
+        let parent = self.parents[rank as usize - 1];
+        let found = neighbours_seen(halves, &self.ranks, rank, parent);
         mark_if(
             found.back,
             &mut self.opens,
             halves,
-            &self.places,
-            place,
+            &self.ranks,
+            rank,
             parent,
         );
         found
@@ -82,13 +82,13 @@ impl Walk {
         ensures walk { IfOk result (λ next. IsWalkWith mol.now self.new (option_to_list next)) }
         ensures empty { IfOk result (λ next. next ≡ None → self.new.stack.items ≡ []) }
         ensures left { IfOk result (λ next. left mol.now self.new (option_to_list next) < left mol.now self.old (atom ∷ [])) }
-        ensures kept { OnOk result ((v : ℕ) → 0 < slice_index_or self.old.places.items v 0 → 0 < slice_index_or self.new.places.items v 0) }
+        ensures kept { OnOk result ((v : ℕ) → 0 < slice_index_or self.old.ranks.items v 0 → 0 < slice_index_or self.new.ranks.items v 0) }
     {
         let found = self.look(mol, atom);
         if !found.some {
             return Ok(self.stack.pop());
         }
-        let parent = self.places[atom as usize];
+        let parent = self.ranks[atom as usize];
         push_if(&mut self.stack, found.more, atom)?;
         self.write(found.least, parent, mol.bond(found.bond).order)?;
         Ok(Some(found.least))
@@ -100,7 +100,7 @@ impl Walk {
         requires walk { IsWalkWith mol.now self.old (root ∷ []) }
         ensures walk { OnOk result (IsWalkWith mol.now self.new []) }
         ensures empty { OnOk result (self.new.stack.items ≡ []) }
-        ensures kept { OnOk result ((v : ℕ) → 0 < slice_index_or self.old.places.items v 0 → 0 < slice_index_or self.new.places.items v 0) }
+        ensures kept { OnOk result ((v : ℕ) → 0 < slice_index_or self.old.ranks.items v 0 → 0 < slice_index_or self.new.ranks.items v 0) }
     {
         let mut next = Some(root);
         while let Some(atom) = next {
@@ -152,18 +152,18 @@ impl Seen {
     }
 }
 
-/// Whether a ring bond leads from the atom at a place, which has this parent, back to the atom at another
-/// one. All are places from 1, and 0 is none.
-fn leads_back(place: u32, parent: u32, at: u32) -> bool
-    ensures { result ≡ leads_back place parent at }
+/// Whether a ring bond leads from the atom of a rank, which has this parent, back to the atom at another
+/// one. All are ranks from 1, and 0 is none.
+fn leads_back(rank: u32, parent: u32, at: u32) -> bool
+    ensures { result ≡ leads_back rank parent at }
 {
-    (at > 0) & (at < place) & (at != parent)
+    (at > 0) & (at < rank) & (at != parent)
 }
 
-/// The neighbours to which these half-edges of the atom at a place lead.
-fn neighbours_seen(halves: &[HalfEdge], places: &[u32], place: u32, parent: u32) -> Seen
-    requires { All (λ half. half.to.0 < length places.now) halves.now }
-    ensures { result ≡ see_all place parent places.now nothing halves.now }
+/// The neighbours to which these half-edges of the atom of a rank lead.
+fn neighbours_seen(halves: &[HalfEdge], ranks: &[u32], rank: u32, parent: u32) -> Seen
+    requires { All (λ half. half.to.0 < length ranks.now) halves.now }
+    ensures { result ≡ see_all rank parent ranks.now nothing halves.now }
 {
     let mut found = Seen {
         some: false,
@@ -173,32 +173,32 @@ fn neighbours_seen(halves: &[HalfEdge], places: &[u32], place: u32, parent: u32)
         bond: BondId(0),
     };
     for half in halves {
-        let at = places[half.to.0 as usize];
-        found = found.see(*half, at == 0, leads_back(place, parent, at));
+        let at = ranks[half.to.0 as usize];
+        found = found.see(*half, at == 0, leads_back(rank, parent, at));
     }
     found
 }
 
-/// Marks the atoms to which ring bonds lead back from the atom at a place, if there are any.
+/// Marks the atoms to which ring bonds lead back from the atom of a rank, if there are any.
 fn mark_if(
     back: bool,
     opens: &mut Vec<bool>,
     halves: &[HalfEdge],
-    places: &[u32],
-    place: u32,
+    ranks: &[u32],
+    rank: u32,
     parent: u32,
 )
-    requires back { back ≡ list_any (λ half. leads_back place parent (slice_index_or places.now half.to.0 0)) halves.now }
-    requires within { All (λ half. half.to.0 < length places.now) halves.now }
-    requires low { place ≤ length opens.old.items }
-    ensures { opens.new.items ≡ mark_all place parent places.now opens.old.items halves.now }
+    requires back { back ≡ list_any (λ half. leads_back rank parent (slice_index_or ranks.now half.to.0 0)) halves.now }
+    requires within { All (λ half. half.to.0 < length ranks.now) halves.now }
+    requires low { rank ≤ length opens.old.items }
+    ensures { opens.new.items ≡ mark_all rank parent ranks.now opens.old.items halves.now }
 {
     if !back {
         return;
     }
     for half in halves {
-        let at = places[half.to.0 as usize];
-        if leads_back(place, parent, at) {
+        let at = ranks[half.to.0 as usize];
+        if leads_back(rank, parent, at) {
             opens[at as usize - 1] = true;
         }
     }
@@ -207,15 +207,15 @@ fn mark_if(
 /// The atoms in the order in which they are written.
 #[derive(Drop)]
 pub struct WrittenAtoms {
-    /// the atoms by place
+    /// the atoms by rank
     pub atoms: Vec<AtomId>,
-    /// by place, the place of the atom's parent, from 1, or 0 where it has none
+    /// by rank, the rank of the atom's parent, from 1, or 0 where it has none
     pub parents: Vec<u32>,
-    /// by place, the order of the bond to the atom's parent
+    /// by rank, the order of the bond to the atom's parent
     pub orders: Vec<u8>,
-    /// the place of each atom, from 1
-    pub places: Vec<u32>,
-    /// by place, whether a ring bond leads to a later atom
+    /// the rank of each atom, from 1
+    pub ranks: Vec<u32>,
+    /// by rank, whether a ring bond leads to a later atom
     pub opens: Vec<bool>,
 }
 
@@ -229,12 +229,12 @@ pub fn order(alloc: Global, mol: &Mol) -> Result<WrittenAtoms, NoMemory>
         atoms: Vec::with_capacity(alloc, count as usize)?,
         parents: Vec::with_capacity(alloc, count as usize)?,
         orders: Vec::with_capacity(alloc, count as usize)?,
-        places: vec![in alloc; 0; count as usize]?,
+        ranks: vec![in alloc; 0; count as usize]?,
         opens: vec![in alloc; false; count as usize]?,
         stack: Vec::with_capacity(alloc, count as usize)?,
     };
     for root in 0..count {
-        if walk.places[root as usize] == 0 {
+        if walk.ranks[root as usize] == 0 {
             walk.write(root, 0, 1)?;
             walk.finish(mol, root)?;
         }
@@ -243,7 +243,7 @@ pub fn order(alloc: Global, mol: &Mol) -> Result<WrittenAtoms, NoMemory>
         atoms: walk.atoms,
         parents: walk.parents,
         orders: walk.orders,
-        places: walk.places,
+        ranks: walk.ranks,
         opens: walk.opens,
     })
 }

@@ -1,6 +1,7 @@
 //! The text of a molecule in its written order.
 
 ghost use Rattle.std.specs.Prelude.{◌≡◌, ◌++◌, [], ◌∷◌, ◌+◌, ◌<◌, ◌≤◌, ℕ, IfOk, OnOk, length, drop, flat_map, get_or, slice_index_or, not, if◌then◌else◌};
+ghost use Rattle.mc_mol.specs.declared.limits.TheConstants.{ATOM_LIMIT};
 ghost use Rattle.mc_mol.specs.Molecule.{bond_sum};
 ghost use Rattle.mc_mol.specs.WellFormed.{IsMolecule};
 ghost use Rattle.smi_lex.specs.declared.token.TokenKind.TheVariants.{Enter, Leave};
@@ -16,15 +17,15 @@ use mc_base::{NoMemory, Text};
 use mc_mol::{Mol, bond_sums};
 use std::alloc::Global;
 
-/// By the place of a parent, from 1, the place, from 0, of its last child.
+/// By the rank of a parent, from 1, the rank, from 0, of its last child.
 fn last_children(alloc: Global, parents: &[u32]) -> Result<Vec<u32>, NoMemory>
-    requires few { length parents.now ≤ 999 }
+    requires few { length parents.now ≤ ATOM_LIMIT }
     requires within { (k : ℕ) → k < length parents.now → slice_index_or parents.now k 0 ≤ length parents.now }
     ensures { IfOk result (λ last. LastChildren parents.now (length parents.now) last.items) }
 {
     let mut last = vec![in alloc; 0; parents.len() + 1]?;
-    for place in 0..parents.len() {
-        last[parents[place] as usize] = place as u32;
+    for rank in 0..parents.len() {
+        last[parents[rank] as usize] = rank as u32;
     }
     Ok(last)
 }
@@ -54,44 +55,44 @@ fn push_before(
     mol: &Mol,
     written: &WrittenAtoms,
     last: &[u32],
-    place: u32,
+    rank: u32,
 ) -> Result<(), NoMemory>
     requires written { IsWrittenOrder mol.now written.now }
     requires molecule { IsMolecule mol.now }
     requires last { LastChildren written.now.parents.items (length mol.now.atoms) last.now }
-    requires within { place < length mol.now.atoms }
-    ensures { OnOk result (text.new ≡ text.old ++ flat_map spelling (before_atom (λ j l. bond_symbol (graph_of mol.now) j l) place
-        (slice_index_or written.now.parents.items place 0) (drop (place + 1) written.now.parents.items))) }
+    requires within { rank < length mol.now.atoms }
+    ensures { OnOk result (text.new ≡ text.old ++ flat_map spelling (before_atom (λ j l. bond_symbol (graph_of mol.now) j l) rank
+        (slice_index_or written.now.parents.items rank 0) (drop (rank + 1) written.now.parents.items))) }
 {
-    let parent = written.parents[place as usize];
+    let parent = written.parents[rank as usize];
     if parent == 0 {
-        return push_unless(text, place == 0, b'.');
+        return push_unless(text, rank == 0, b'.');
     }
-    let later = last[parent as usize] > place;
-    push_bond(text, parent == place, later, written.orders[place as usize])
+    let later = last[parent as usize] > rank;
+    push_bond(text, parent == rank, later, written.orders[rank as usize])
 }
 
 /// An atom with what stands before it.
-fn push_place(
+fn push_step(
     text: &mut Text,
     mol: &Mol,
     written: &WrittenAtoms,
     sums: &[u32],
     last: &[u32],
-    place: u32,
+    rank: u32,
 ) -> Result<(), NoMemory>
     requires written { IsWrittenOrder mol.now written.now }
     requires molecule { IsMolecule mol.now }
     requires sum_count { length sums.now ≡ length mol.now.atoms }
     requires sums { (u : ℕ) → get_or sums.now u 0 ≡ bond_sum mol.now.bonds u }
     requires last { LastChildren written.now.parents.items (length mol.now.atoms) last.now }
-    requires within { place < length mol.now.atoms }
-    ensures { OnOk result (text.new ≡ text.old ++ (flat_map spelling (before_atom (λ j l. bond_symbol (graph_of mol.now) j l) place
-        (slice_index_or written.now.parents.items place 0) (drop (place + 1) written.now.parents.items))
-        ++ spelling (atom_token mol.now (at (graph_of mol.now) place)))) }
+    requires within { rank < length mol.now.atoms }
+    ensures { OnOk result (text.new ≡ text.old ++ (flat_map spelling (before_atom (λ j l. bond_symbol (graph_of mol.now) j l) rank
+        (slice_index_or written.now.parents.items rank 0) (drop (rank + 1) written.now.parents.items))
+        ++ spelling (atom_token mol.now (at (graph_of mol.now) rank)))) }
 {
-    push_before(text, mol, written, last, place)?;
-    let id = written.atoms[place as usize];
+    push_before(text, mol, written, last, rank)?;
+    let id = written.atoms[rank as usize];
     push_atom(text, mol.atom(id), sums[id.0 as usize])?;
     Ok(())
 }
@@ -112,9 +113,9 @@ pub fn text_of(alloc: Global, mol: &Mol, written: &WrittenAtoms) -> Result<Text,
     let mut rings = Vec::new(alloc);
     let mut closing = Vec::new(alloc);
     let mut text = Text::from_vec(Vec::with_capacity(alloc, usual_length(mol))?);
-    for place in 0..mol.atom_count() {
-        push_place(&mut text, mol, written, &sums, &last, place)?;
-        push_rings(&mut text, mol, written, &mut rings, &mut closing, place)?;
+    for rank in 0..mol.atom_count() {
+        push_step(&mut text, mol, written, &sums, &last, rank)?;
+        push_rings(&mut text, mol, written, &mut rings, &mut closing, rank)?;
     }
     Ok(text)
 }

@@ -1,5 +1,6 @@
 ghost use Rattle.std.specs.List.{list_all};
 ghost use Rattle.std.specs.Prelude.{◌≡◌, ◌<◌, ◌≤◌, All, IfOk, length, nat_le, true};
+ghost use Rattle.mc_mol.specs.declared.limits.TheConstants.{ATOM_LIMIT};
 ghost use Rattle.mc_mol.specs.WellFormed.{IsMolecule};
 ghost use Rattle.smi_mean.specs.Sound.{IsSound};
 ghost use Rattle.smi_mean.specs.Written.{written_text, written_order};
@@ -32,7 +33,7 @@ pub fn write_smiles(alloc: Global, mol: &Mol) -> Result<Written, NoMemory>
     ensures text { IfOk result (λ written. written.text ≡ written_text mol.now) }
     ensures order { IfOk result (λ written. written.order ≡ written_order mol.now) }
     ensures in_range { IfOk result (λ written. All (λ atom. atom.0 < length mol.now.atoms) written.order) }
-    ensures few { length mol.now.atoms ≤ 999 }
+    ensures few { length mol.now.atoms ≤ ATOM_LIMIT }
 
     // No blank and no line end stands in the text.
     ensures no_blanks { IfOk result (λ written. list_all (λ byte. nat_le 33 byte) written.text ≡ true) }

@@ -1,6 +1,6 @@
 use Rattle.std.proofs.Common.{slice_get}
+use Rattle.mc_mol.specs.Limits.{is_hydrogen_with_more}
 use Rattle.smi_graph.specs.Firsts.{NoneBelow}
-use Rattle.smi_mean.specs.Rules.{is_hydrogen_with_more}
 use Rattle.smi_mean.proofs.faults.first_hydrogen_on_hydrogen.Given as goal
 
 abbrev pub invariant-loop-k : goal.invariant-loop-k

@@ -7,5 +7,5 @@ abbrev pub invariant-loop-root : goal.invariant-loop-root
 invariant-loop-root l = record {
   walk : IsWalkWith l.mol l.walk [];
   empty : l.walk.stack.items ≡ [];
-  earlier : (v : ℕ) → v < l.root → 0 < slice_index_or l.walk.places.items v 0;
+  earlier : (v : ℕ) → v < l.root → 0 < slice_index_or l.walk.ranks.items v 0;
 }

@@ -11,7 +11,7 @@ index-parent-requires c =
 
 pub bounds-last-parent : goal.bounds-last-parent
 bounds-last-parent c =
-    let low = (has_parent c.args.mol.now c.args.written.now c.args.place c.index-parent.result.now c.requires.written c.requires.within c.index-parent.ensures).low in
+    let low = (has_parent c.args.mol.now c.args.written.now c.args.rank c.index-parent.result.now c.requires.written c.requires.within c.index-parent.ensures).low in
     let len = length_parent_list c.args.mol.now c.args.written.now c.requires.written in
     let within = c.requires.within in
     let count = c.requires.last.count in omega arith
@@ -25,6 +25,6 @@ pub returns : goal.returns
 returns c =
     let within = c.requires.within in
     let some = c.if-parent-eq0.false in
-    let parent = has_parent c.args.mol.now c.args.written.now c.args.place c.index-parent.result.now c.requires.written within c.index-parent.ensures in
-    rw (sym (before_is c.args.mol.now c.args.written.now c.args.last.now c.args.place c.index-parent.result.now c.index.result.now _ c.requires.written c.requires.last within parent some
-    (order_kept c.args.mol.now c.args.written.now c.args.place c.index-parent.result.now c.index.result.now c.requires.written within parent some c.index.ensures) refl)) c.push_bond.ensures
+    let parent = has_parent c.args.mol.now c.args.written.now c.args.rank c.index-parent.result.now c.requires.written within c.index-parent.ensures in
+    rw (sym (before_is c.args.mol.now c.args.written.now c.args.last.now c.args.rank c.index-parent.result.now c.index.result.now _ c.requires.written c.requires.last within parent some
+    (order_kept c.args.mol.now c.args.written.now c.args.rank c.index-parent.result.now c.index.result.now c.requires.written within parent some c.index.ensures) refl)) c.push_bond.ensures

@@ -5,8 +5,8 @@ use Rattle.smi_write.specs.OpenRings.{Holds}
 use Rattle.smi_write.specs.Texts.{rest_tokens, open_pairs}
 use Rattle.smi_write.proofs.text.text_of.Given as goal
 
-abbrev pub invariant-loop-place : goal.invariant-loop-place
-invariant-loop-place l = record {
-  text : l.text ++ flat_map spelling (rest_tokens l.mol l.place) ≡ written_text l.mol;
-  rings : Holds l.rings.items (open_pairs l.mol l.place);
+abbrev pub invariant-loop-rank : goal.invariant-loop-rank
+invariant-loop-rank l = record {
+  text : l.text ++ flat_map spelling (rest_tokens l.mol l.rank) ≡ written_text l.mol;
+  rings : Holds l.rings.items (open_pairs l.mol l.rank);
 }

@@ -8,7 +8,7 @@ abbrev pub invariant-loop-next : goal.invariant-loop-next
 invariant-loop-next l = record {
   walk : IsWalkWith l.mol l.self (option_to_list l.next);
   empty : l.next ≡ None → l.self.stack.items ≡ [];
-  kept : (v : ℕ) → 0 < slice_index_or l.initial.self.places.items v 0 → 0 < slice_index_or l.self.places.items v 0;
+  kept : (v : ℕ) → 0 < slice_index_or l.initial.self.ranks.items v 0 → 0 < slice_index_or l.self.ranks.items v 0;
 }
 
 abbrev pub decreases-loop-next : goal.decreases-loop-next
