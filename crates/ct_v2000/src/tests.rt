@@ -1,3 +1,6 @@
+mod damaged;
+mod plain;
+
 use crate::read;
 use ct_sd::{DrawMark, Record, Table, Version, are_within};
 use mc_base::{Kind, NoMemory, Span, Stop};
@@ -26,6 +29,10 @@ fn ranges_of(alloc: Global, text: &[u8]) -> Result<Vec<Span>, NoMemory> {
             ranges.push(Span { from, to })?;
             from = to.saturating_add(1);
         }
+    }
+    if (from as usize) < text.len() {
+        let to = u32::try_from(text.len()).unwrap_or(0);
+        ranges.push(Span { from, to })?;
     }
     Ok(ranges)
 }
