@@ -1,8 +1,10 @@
 -- What one wedge alone says of an atom.
-use Rattle.std.proofs.Common.{◌≡◌, ◌≢◌, ◌∙◌, ℕ, zero, suc, Bool, true, false, ◌&&◌, ◌||◌, not, ◌==◌, List, [], ◌∷◌, Some, slice_get, refl, ap, subst, arith, inl, inr}
+use Rattle.std.proofs.Common.{◌≡◌, ◌≢◌, ◌∙◌, ℕ, zero, suc, Bool, true, false, ◌&&◌, not, ◌==◌, List, [], ◌∷◌, Some, slice_get, refl, ap, subst, arith, inl, inr}
 use Rattle.std.specs.List.{list_any}
 use Rattle.std.proofs.lemmas.Bool.{cases_eq}
 use Rattle.std.proofs.lemmas.Bool.Decides.{nat_tests}
+use Rattle.std.proofs.lemmas.Map.Keys.{any_passes_from_place}
+use Rattle.std.proofs.Math.Bool.{and-false}
 use Rattle.ct_sd.specs.declared.table.DrawMark.{DrawMark}
 use Rattle.ct_sd.specs.declared.table.DrawMark.TheVariants.{Plain, Up, Down, Wavy, Either}
 use Rattle.mc_base.specs.declared.ids.AtomId.{AtomId}
@@ -17,23 +19,15 @@ pub any_not : {A : Type 0} (f : A → Bool) (xs : List A) → ((i : ℕ) (x : A)
 any_not f [] all = refl
 any_not f (x ∷ xs) all = rw (all 0 x refl) (any_not f xs (λ i y at. all (suc i) y at))
 
-or_true : (b : Bool) → (b || true) ≡ true
-or_true true = refl
-or_true false = refl
-
-pub any_at : {A : Type 0} (f : A → Bool) (xs : List A) (i : ℕ) (x : A) → slice_get xs i ≡ Some x → f x ≡ true → list_any f xs ≡ true
-any_at f [] i x at e = cc
-any_at f (y ∷ ys) zero x at e = (let same : y ≡ x = cc in let here : f y ≡ true = ap f same ∙ e in rw here refl)
-any_at f (y ∷ ys) (suc i) x at e = ap (λ (b : Bool). f y || b) (any_at f ys i x at e) ∙ or_true (f y)
-
 -- of these half-edges the one at this place alone carries a mark, and that a wedge
 pub record IsAlone (mark_of : ℕ → DrawMark) (halves : List HalfEdge) (place : ℕ) (half : HalfEdge) : Type 0 where
   pub is_half : slice_get halves place ≡ Some half
   pub wedge : is_wedge (mark_of half.bond.0) ≡ true
   pub rest : (i : ℕ) (h : HalfEdge) → i ≢ place → slice_get halves i ≡ Some h → mark_of h.bond.0 ≡ Plain
 
-same_half : (halves : List HalfEdge) (i place : ℕ) (h half : HalfEdge) → i ≡ place → slice_get halves i ≡ Some h → slice_get halves place ≡ Some half → h ≡ half
-same_half halves i place h half e at is = let moved : slice_get halves place ≡ Some h = subst (λ (k : ℕ). slice_get halves k ≡ Some h) e at in cc
+-- a half-edge is told by its place
+pub one_half : (halves : List HalfEdge) (i place : ℕ) (h half : HalfEdge) → i ≡ place → slice_get halves i ≡ Some h → slice_get halves place ≡ Some half → h ≡ half
+one_half halves i place h half e at is = let moved : slice_get halves place ≡ Some h = subst (λ (k : ℕ). slice_get halves k ≡ Some h) e at in cc
 
 no_wedge : (mark : DrawMark) → mark ≡ Plain → is_wedge mark ≡ false
 no_wedge mark e = rw e refl
@@ -48,10 +42,6 @@ wedge_no_wave Down e = refl
 wedge_no_wave Wavy e = cc
 wedge_no_wave Either e = refl
 
-and_false : (b : Bool) → (b && false) ≡ false
-and_false true = refl
-and_false false = refl
-
 same_number : (a : ℕ) → not (a == a) ≡ false
 same_number a = (let e : (a == a) ≡ true = grind (arith, nat_tests) in rw e refl)
 
@@ -63,9 +53,9 @@ module _ (mark_of : ℕ → DrawMark) (ray_to : AtomId → Vector) where
 
   is_drawn : (halves : List HalfEdge) (place : ℕ) (half : HalfEdge) → IsAlone mark_of halves place half → is_drawn_as_centre mark_of halves ≡ true
   is_drawn halves place half alone =
-      let has : list_any (λ (h : HalfEdge). carries mark_of h) halves ≡ true = any_at (λ (h : HalfEdge). carries mark_of h) halves place half alone.is_half alone.wedge in
+      let has : list_any (λ (h : HalfEdge). carries mark_of h) halves ≡ true = any_passes_from_place (λ (h : HalfEdge). carries mark_of h) halves place half alone.is_half alone.wedge in
       let none : list_any (λ (h : HalfEdge). is_wavy (mark_of h.bond.0)) halves ≡ false = any_not (λ (h : HalfEdge). is_wavy (mark_of h.bond.0)) halves (λ i h at. elim (cases_eq i place) [
-        | inl same ↦ (let is = same_half halves i place h half same at alone.is_half in ap (λ (x : HalfEdge). is_wavy (mark_of x.bond.0)) is ∙ wedge_no_wave (mark_of half.bond.0) alone.wedge)
+        | inl same ↦ (let is = one_half halves i place h half same at alone.is_half in ap (λ (x : HalfEdge). is_wavy (mark_of x.bond.0)) is ∙ wedge_no_wave (mark_of half.bond.0) alone.wedge)
         | inr other ↦ no_wave (mark_of h.bond.0) (alone.rest i h other at)
       ]) in
       rw (has, none) refl
@@ -73,21 +63,21 @@ module _ (mark_of : ℕ → DrawMark) (ray_to : AtomId → Vector) where
   not_middle : (halves : List HalfEdge) (place : ℕ) (half : HalfEdge) → IsAlone mark_of halves place half → is_middle_one halves ray_to half.to ≡ false → wedge_in_the_middle mark_of halves ray_to ≡ false
   unfolding wedge_in_the_middle
   not_middle halves place half alone free = any_not (λ (h : HalfEdge). carries mark_of h && is_middle_one halves ray_to h.to) halves (λ i h at. elim (cases_eq i place) [
-    | inl same ↦ (let is = same_half halves i place h half same at alone.is_half in ap (λ (b : Bool). carries mark_of h && b) (ap (λ (x : HalfEdge). is_middle_one halves ray_to x.to) is ∙ free) ∙ and_false (carries mark_of h))
+    | inl same ↦ (let is = one_half halves i place h half same at alone.is_half in ap (λ (b : Bool). carries mark_of h && b) (ap (λ (x : HalfEdge). is_middle_one halves ray_to x.to) is ∙ free) ∙ and-false (carries mark_of h))
     | inr other ↦ elsewhere halves place half alone i h (is_middle_one halves ray_to h.to) other at
   ])
 
   none_against : (halves : List HalfEdge) (place : ℕ) (half : HalfEdge) (places : List Slot) → IsAlone mark_of halves place half → contradicts mark_of halves ray_to half places ≡ false
   none_against halves place half places alone = any_not _ halves (λ i h at. elim (cases_eq i place) [
-    | inl same ↦ (let is = same_half halves i place h half same at alone.is_half in let e : not (half.bond.0 == h.bond.0) ≡ false = ap (λ (x : HalfEdge). not (half.bond.0 == x.bond.0)) is ∙ same_number half.bond.0 in rw e refl)
-    | inr other ↦ ap (λ (b : Bool). not (half.bond.0 == h.bond.0) && b) (elsewhere halves place half alone i h _ other at) ∙ and_false (not (half.bond.0 == h.bond.0))
+    | inl same ↦ (let is = one_half halves i place h half same at alone.is_half in let e : not (half.bond.0 == h.bond.0) ≡ false = ap (λ (x : HalfEdge). not (half.bond.0 == x.bond.0)) is ∙ same_number half.bond.0 in rw e refl)
+    | inr other ↦ ap (λ (b : Bool). not (half.bond.0 == h.bond.0) && b) (elsewhere halves place half alone i h _ other at) ∙ and-false (not (half.bond.0 == h.bond.0))
   ])
 
   no_contradiction : (halves : List HalfEdge) (place : ℕ) (half : HalfEdge) → IsAlone mark_of halves place half → contradict mark_of halves ray_to ≡ false
   unfolding contradict
   no_contradiction halves place half alone = any_not (λ (g : HalfEdge). carries mark_of g && contradicts mark_of halves ray_to g (list_of mark_of halves ray_to g)) halves (λ i g at. elim (cases_eq i place) [
-    | inl same ↦ (let is = same_half halves i place g half same at alone.is_half in
-        ap (λ (b : Bool). carries mark_of g && b) (ap (λ (x : HalfEdge). contradicts mark_of halves ray_to x (list_of mark_of halves ray_to x)) is ∙ none_against halves place half (list_of mark_of halves ray_to half) alone) ∙ and_false (carries mark_of g))
+    | inl same ↦ (let is = one_half halves i place g half same at alone.is_half in
+        ap (λ (b : Bool). carries mark_of g && b) (ap (λ (x : HalfEdge). contradicts mark_of halves ray_to x (list_of mark_of halves ray_to x)) is ∙ none_against halves place half (list_of mark_of halves ray_to half) alone) ∙ and-false (carries mark_of g))
     | inr other ↦ elsewhere halves place half alone i g (contradicts mark_of halves ray_to g (list_of mark_of halves ray_to g)) other at
   ])
 

@@ -1,5 +1,6 @@
 -- What holds of the elements of a loop.
-use Rattle.std.proofs.Common.{◌≡◌, ℕ, ◌<◌, List, length, get_or, drop, refl, ap, ◌∙◌, arith, Bool, true, false, ◌&&◌, not, ◌+◌, ◌≤◌, ◌≢◌, [], ◌∷◌, ◌++◌}
+use Rattle.std.proofs.Common.{◌≡◌, ℕ, ◌<◌, List, length, get_or, drop, refl, ap, subst, inl, inr, ◌∙◌, arith, Bool, true, false, ◌&&◌, not, ◌+◌, ◌≤◌, ◌≢◌, [], ◌∷◌, ◌++◌}
+use Rattle.std.proofs.lemmas.Bool.{cases_lt}
 use Rattle.std.proofs.lemmas.List.{drop_more}
 use Rattle.std.proofs.lemmas.List.Elements.{All-drop, All-push}
 use Rattle.std.specs.List.{list_all}
@@ -57,3 +58,10 @@ few_in_order (r ∷ p ∷ q ∷ s ∷ x ∷ xs) few not_three not_four = absurd 
 
 pub places_more : (places : List Point) (p : Point) → All IsPlace places → IsPlace p → All IsPlace (places ++ p ∷ [])
 places_more places p all is = All-push IsPlace places p all is
+
+-- one more number
+pub each_more : (P : ℕ → Type 0) (i : ℕ) → ((j : ℕ) → j < i → P j) → P i → (j : ℕ) → j < i + 1 → P j
+each_more P i before now j less = elim (cases_lt j i) [
+  | inl earlier ↦ before j earlier
+  | inr later ↦ let same : i ≡ j = omega arith in subst P same now
+]

@@ -1,6 +1,6 @@
 -- The other neighbours of an atom, in the order of its half-edges.
-use Rattle.std.proofs.Common.{◌≡◌, ◌≢◌, ℕ, List, [], ◌∷◌, Some, length, get_or, slice_get, refl, sym, subst, arith, true, false, ◌==◌, inl, inr}
-use Rattle.std.proofs.lemmas.Bool.{cases_eq}
+use Rattle.std.proofs.Common.{◌≡◌, ◌≢◌, ℕ, List, [], ◌∷◌, Some, length, get_or, slice_get, refl, sym, subst, arith, false, ◌==◌, inl, inr}
+use Rattle.std.proofs.lemmas.Bool.{cases_eq, eq-eqb}
 use Rattle.std.proofs.lemmas.Bool.Decides.{nat_tests}
 use Rattle.std.proofs.lemmas.Option.{slice_get_within}
 use Rattle.mc_base.specs.declared.ids.AtomId.{AtomId}
@@ -17,22 +17,19 @@ three_of (a ∷ b ∷ []) d e = absurd (omega arith)
 three_of (a ∷ b ∷ c ∷ []) d e = refl
 three_of (a ∷ b ∷ c ∷ x ∷ xs) d e = absurd (omega arith)
 
-test_of : (a w : ℕ) → a ≡ w → (a == w) ≡ true
-test_of a w e = grind (arith, nat_tests)
-
 test_other : (a b w : ℕ) → b ≡ w → a ≢ b → (a == w) ≡ false
 test_other a b w e ne = grind (arith, nat_tests)
 
 -- ---- three
 
 first_of_three : (a b c : HalfEdge) (w : AtomId) → a.to.0 ≡ w.0 → LeadApart (a ∷ b ∷ c ∷ []) → b.to ∷ c.to ∷ [] ≡ others (a ∷ b ∷ c ∷ []) w
-first_of_three a b c w e apart = rw (test_of a.to.0 w.0 e, test_other b.to.0 a.to.0 w.0 e (apart 1 0 b a (omega arith) refl refl), test_other c.to.0 a.to.0 w.0 e (apart 2 0 c a (omega arith) refl refl)) refl
+first_of_three a b c w e apart = rw (eq-eqb a.to.0 w.0 e, test_other b.to.0 a.to.0 w.0 e (apart 1 0 b a (omega arith) refl refl), test_other c.to.0 a.to.0 w.0 e (apart 2 0 c a (omega arith) refl refl)) refl
 
 second_of_three : (a b c : HalfEdge) (w : AtomId) → b.to.0 ≡ w.0 → LeadApart (a ∷ b ∷ c ∷ []) → a.to ∷ c.to ∷ [] ≡ others (a ∷ b ∷ c ∷ []) w
-second_of_three a b c w e apart = rw (test_other a.to.0 b.to.0 w.0 e (apart 0 1 a b (omega arith) refl refl), test_of b.to.0 w.0 e, test_other c.to.0 b.to.0 w.0 e (apart 2 1 c b (omega arith) refl refl)) refl
+second_of_three a b c w e apart = rw (test_other a.to.0 b.to.0 w.0 e (apart 0 1 a b (omega arith) refl refl), eq-eqb b.to.0 w.0 e, test_other c.to.0 b.to.0 w.0 e (apart 2 1 c b (omega arith) refl refl)) refl
 
 third_of_three : (a b c : HalfEdge) (w : AtomId) → c.to.0 ≡ w.0 → LeadApart (a ∷ b ∷ c ∷ []) → a.to ∷ b.to ∷ [] ≡ others (a ∷ b ∷ c ∷ []) w
-third_of_three a b c w e apart = rw (test_other a.to.0 c.to.0 w.0 e (apart 0 2 a c (omega arith) refl refl), test_other b.to.0 c.to.0 w.0 e (apart 1 2 b c (omega arith) refl refl), test_of c.to.0 w.0 e) refl
+third_of_three a b c w e apart = rw (test_other a.to.0 c.to.0 w.0 e (apart 0 2 a c (omega arith) refl refl), test_other b.to.0 c.to.0 w.0 e (apart 1 2 b c (omega arith) refl refl), eq-eqb c.to.0 w.0 e) refl
 
 -- the last one, where none of the others is meant
 last_of_three : (a b c : HalfEdge) (w : AtomId) → LeadTo (a ∷ b ∷ c ∷ []) w → a.to.0 ≢ w.0 → b.to.0 ≢ w.0 → c.to.0 ≡ w.0
@@ -69,16 +66,16 @@ but_third_of_three xs d w count apart lead not_a not_b =
 -- ---- four
 
 first_of_four : (a b c d : HalfEdge) (w : AtomId) → a.to.0 ≡ w.0 → LeadApart (a ∷ b ∷ c ∷ d ∷ []) → b.to ∷ c.to ∷ d.to ∷ [] ≡ others (a ∷ b ∷ c ∷ d ∷ []) w
-first_of_four a b c d w e apart = rw (test_of a.to.0 w.0 e, test_other b.to.0 a.to.0 w.0 e (apart 1 0 b a (omega arith) refl refl), test_other c.to.0 a.to.0 w.0 e (apart 2 0 c a (omega arith) refl refl), test_other d.to.0 a.to.0 w.0 e (apart 3 0 d a (omega arith) refl refl)) refl
+first_of_four a b c d w e apart = rw (eq-eqb a.to.0 w.0 e, test_other b.to.0 a.to.0 w.0 e (apart 1 0 b a (omega arith) refl refl), test_other c.to.0 a.to.0 w.0 e (apart 2 0 c a (omega arith) refl refl), test_other d.to.0 a.to.0 w.0 e (apart 3 0 d a (omega arith) refl refl)) refl
 
 second_of_four : (a b c d : HalfEdge) (w : AtomId) → b.to.0 ≡ w.0 → LeadApart (a ∷ b ∷ c ∷ d ∷ []) → a.to ∷ c.to ∷ d.to ∷ [] ≡ others (a ∷ b ∷ c ∷ d ∷ []) w
-second_of_four a b c d w e apart = rw (test_other a.to.0 b.to.0 w.0 e (apart 0 1 a b (omega arith) refl refl), test_of b.to.0 w.0 e, test_other c.to.0 b.to.0 w.0 e (apart 2 1 c b (omega arith) refl refl), test_other d.to.0 b.to.0 w.0 e (apart 3 1 d b (omega arith) refl refl)) refl
+second_of_four a b c d w e apart = rw (test_other a.to.0 b.to.0 w.0 e (apart 0 1 a b (omega arith) refl refl), eq-eqb b.to.0 w.0 e, test_other c.to.0 b.to.0 w.0 e (apart 2 1 c b (omega arith) refl refl), test_other d.to.0 b.to.0 w.0 e (apart 3 1 d b (omega arith) refl refl)) refl
 
 third_of_four : (a b c d : HalfEdge) (w : AtomId) → c.to.0 ≡ w.0 → LeadApart (a ∷ b ∷ c ∷ d ∷ []) → a.to ∷ b.to ∷ d.to ∷ [] ≡ others (a ∷ b ∷ c ∷ d ∷ []) w
-third_of_four a b c d w e apart = rw (test_other a.to.0 c.to.0 w.0 e (apart 0 2 a c (omega arith) refl refl), test_other b.to.0 c.to.0 w.0 e (apart 1 2 b c (omega arith) refl refl), test_of c.to.0 w.0 e, test_other d.to.0 c.to.0 w.0 e (apart 3 2 d c (omega arith) refl refl)) refl
+third_of_four a b c d w e apart = rw (test_other a.to.0 c.to.0 w.0 e (apart 0 2 a c (omega arith) refl refl), test_other b.to.0 c.to.0 w.0 e (apart 1 2 b c (omega arith) refl refl), eq-eqb c.to.0 w.0 e, test_other d.to.0 c.to.0 w.0 e (apart 3 2 d c (omega arith) refl refl)) refl
 
 fourth_of_four : (a b c d : HalfEdge) (w : AtomId) → d.to.0 ≡ w.0 → LeadApart (a ∷ b ∷ c ∷ d ∷ []) → a.to ∷ b.to ∷ c.to ∷ [] ≡ others (a ∷ b ∷ c ∷ d ∷ []) w
-fourth_of_four a b c d w e apart = rw (test_other a.to.0 d.to.0 w.0 e (apart 0 3 a d (omega arith) refl refl), test_other b.to.0 d.to.0 w.0 e (apart 1 3 b d (omega arith) refl refl), test_other c.to.0 d.to.0 w.0 e (apart 2 3 c d (omega arith) refl refl), test_of d.to.0 w.0 e) refl
+fourth_of_four a b c d w e apart = rw (test_other a.to.0 d.to.0 w.0 e (apart 0 3 a d (omega arith) refl refl), test_other b.to.0 d.to.0 w.0 e (apart 1 3 b d (omega arith) refl refl), test_other c.to.0 d.to.0 w.0 e (apart 2 3 c d (omega arith) refl refl), eq-eqb d.to.0 w.0 e) refl
 
 -- the last one, where none of the others is meant
 last_of_four : (a b c d : HalfEdge) (w : AtomId) → LeadTo (a ∷ b ∷ c ∷ d ∷ []) w → a.to.0 ≢ w.0 → b.to.0 ≢ w.0 → c.to.0 ≢ w.0 → d.to.0 ≡ w.0

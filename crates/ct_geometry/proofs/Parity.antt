@@ -128,10 +128,10 @@ turns_if : (places : List Slot) (b : Bool) (x y : List Slot) → Turns places x 
 turns_if places true x y p q = p
 turns_if places false x y p q = q
 
-at_differ : (a b : AtomId) → a.0 ≢ b.0 → At a ≢ At b
+pub at_differ : (a b : AtomId) → a.0 ≢ b.0 → At a ≢ At b
 at_differ a b ne e = ne cc
 
-at_no_rest : (a : AtomId) → At a ≢ Rest
+pub at_no_rest : (a : AtomId) → At a ≢ Rest
 at_no_rest a e = cc
 
 turns : (places : List Slot) (ray_to : AtomId → Vector) (w : AtomId) (ys : List AtomId) → Each (λ (c : AtomId). Contains places (At c)) ys → Apart ys
@@ -172,7 +172,7 @@ count_of_four xs d w count apart lead = elim (cases_eq (get_or xs 0 d).to.0 w.0)
   ]
 ]
 
-count_of : (xs : List HalfEdge) (w : AtomId) → AreOfCentre xs → LeadTo xs w → (length (others xs w) ≡ 2) ⊎ (length (others xs w) ≡ 3)
+pub count_of : (xs : List HalfEdge) (w : AtomId) → AreOfCentre xs → LeadTo xs w → (length (others xs w) ≡ 2) ⊎ (length (others xs w) ≡ 3)
 count_of xs w of lead = elim of.few [
   | inl three ↦ inl (count_of_three xs lead.half w three of.apart lead)
   | inr four ↦ inr (count_of_four xs lead.half w four of.apart lead)

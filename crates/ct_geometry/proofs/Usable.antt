@@ -2,6 +2,7 @@
 use Rattle.std.proofs.Common.{◌≡◌, ℕ, Bool, true, false, ◌&&◌, not, ◌==◌, List, [], ◌∷◌, Some, length, slice_get, refl, sym, arith, inl, inr}
 use Rattle.std.proofs.lemmas.Bool.{cases_eq}
 use Rattle.std.proofs.lemmas.Bool.Decides.{nat_tests}
+use Rattle.std.proofs.lemmas.Map.Keys.{any_passes_from_place}
 use Rattle.mc_base.specs.declared.ids.AtomId.{AtomId}
 use Rattle.mc_mol.specs.declared.drawing.Point.{Point}
 use Rattle.mc_mol.specs.declared.parts.Bond.{Bond}
@@ -14,14 +15,14 @@ use Rattle.mc_mol.proofs.Twins.{all_have_twins}
 use Rattle.ct_geometry.specs.Turns.{have_one_direction}
 use Rattle.ct_geometry.specs.Drawn.{IsDrawn, MayCarry, ray_of, rays_from}
 use Rattle.ct_geometry.specs.Wedges.{coincide, coincides, is_middle_of, is_middle_one, others}
-use Rattle.ct_geometry.proofs.Alone.{any_at, any_not}
+use Rattle.ct_geometry.proofs.Alone.{any_not}
 use Rattle.ct_geometry.proofs.Apart.{Each, Other, Apart, apart_others, each_other, others_differ}
 
 -- a half-edge leads to an atom that is joined
 pub joined_of : (m : Molecule) (a i : ℕ) (half : HalfEdge) → IsMolecule m → slice_get (half_edges m a) i ≡ Some half → are_joined m.bonds a half.to.0 ≡ true
 joined_of m a i half is at =
     let twin = all_have_twins m (record { 0 = a }) is i half at in
-    any_at (λ (bond : Bond). joins bond a half.to.0) m.bonds half.bond.0 twin.bond twin.is_bond twin.joined
+    any_passes_from_place (λ (bond : Bond). joins bond a half.to.0) m.bonds half.bond.0 twin.bond twin.is_bond twin.joined
 
 other_way : (b : Bool) → b ≡ false → (true && b) ≡ false
 other_way b e = e

@@ -4,3 +4,9 @@ pub mod Wedges
 pub mod Bounds
 pub mod Neighbours
 pub mod Orders
+pub mod DrawnTests
+pub mod Tables
+pub mod TableFaults
+pub mod TableSides
+pub mod CentresRead
+pub mod Stands

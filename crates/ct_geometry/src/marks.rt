@@ -18,7 +18,7 @@ pub fn is_wedge(mark: DrawMark) -> bool
     }
 }
 
-fn is_wavy(mark: DrawMark) -> bool
+pub fn is_wavy(mark: DrawMark) -> bool
     ensures { result ≡ is_wavy mark }
 {
     match mark {
@@ -27,7 +27,7 @@ fn is_wavy(mark: DrawMark) -> bool
     }
 }
 
-fn mark_of(marks: &[DrawMark], k: BondId) -> DrawMark
+pub fn mark_of(marks: &[DrawMark], k: BondId) -> DrawMark
     ensures { result ≡ get_or marks.now k.0 Plain }
 {
     match marks.get(k.0 as usize) {

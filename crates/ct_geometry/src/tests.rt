@@ -3,6 +3,8 @@ ghost use Rattle.std.specs.Prelude.{◌≡◌, ◌<◌, length, IfOk};
 ghost use Rattle.mc_rings.specs.Rings.{AreRingsOf};
 ghost use Rattle.ct_geometry.specs.Bounds.{ArePlaces, IsPlace};
 
+mod tables;
+
 use crate::*;
 use ct_sd::DrawMark;
 use mc_base::{AtomId, NoMemory};
@@ -396,5 +398,68 @@ fn sides_of_a_line(rt: HostRuntime) -> Result<(), Fail> {
     assert_eq!(rt; side((1, 1), (3, 1), (2, 5)), 1);
     assert_eq!(rt; side((1, 1), (3, 1), (9, 0)), -1);
     assert_eq!(rt; side((1, 1), (3, 1), (9, 1)), 0);
+    Ok(())
+}
+
+/// Whether a star drawn like this gives what a drawing must.
+fn star_is_drawn(
+    alloc: Global,
+    neighbours: u32,
+    middle: (i64, i64),
+    places: &[(i64, i64)],
+) -> Result<bool, NoMemory> {
+    let mol = star(alloc, neighbours)?;
+    let drawing = drawn(alloc, middle, places)?;
+    Ok(is_drawn(&mol, &drawing))
+}
+
+#[test]
+fn drawings_of_stars(rt: HostRuntime) -> Result<(), Fail> {
+    for (middle, places, wanted) in [
+        ((1, 1), [(-1, 0), (1, 0), (0, -1)], true),
+        // two in one place, one in the atom's own, two in one direction
+        ((1, 1), [(-1, 0), (-1, 0), (0, -1)], false),
+        ((1, 1), [(-1, 0), (0, 0), (0, -1)], false),
+        ((2, 2), [(-1, -1), (-2, -2), (1, 0)], false),
+        // the least x isn't 0, nor is the least y
+        ((2, 1), [(-1, 0), (1, 0), (0, -1)], false),
+        ((1, 2), [(-1, 0), (1, 0), (0, -1)], false),
+    ] {
+        assert_eq!(rt; star_is_drawn(rt.alloc(), 3, middle, &places)?, wanted);
+    }
+    let places = [(-1, 0), (1, 0), (0, -1)];
+    assert_eq!(rt; star_is_drawn(rt.alloc(), 2, (1, 1), &places)?, false);
+    assert_eq!(rt; star_is_drawn(rt.alloc(), 4, (1, 1), &places)?, false);
+    let none = Drawing::new(rt.alloc());
+    assert_eq!(rt; is_drawn(&Mol::new(rt.alloc()), &none), true);
+    Ok(())
+}
+
+/// Whether two atoms that are joined are drawn, the one at 0 and the other at this place.
+fn two_are_drawn(alloc: Global, place: (i64, i64)) -> Result<bool, NoMemory> {
+    let mol = star(alloc, 1)?;
+    let mut drawing = Drawing::new(alloc);
+    drawing.push(Point { x: 0, y: 0 })?;
+    drawing.push(Point {
+        x: place.0,
+        y: place.1,
+    })?;
+    Ok(is_drawn(&mol, &drawing))
+}
+
+#[test]
+fn limits_of_drawings(rt: HostRuntime) -> Result<(), Fail> {
+    for (place, wanted) in [
+        ((999_999_999, 0), true),
+        ((1_000_000_000, 0), false),
+        ((0, 1_000_000_000), false),
+        ((-1, 0), false),
+        ((0, -1), false),
+        ((i64::MIN, 0), false),
+        ((i64::MAX, i64::MAX), false),
+        ((0, 0), false),
+    ] {
+        assert_eq!(rt; two_are_drawn(rt.alloc(), place)?, wanted);
+    }
     Ok(())
 }

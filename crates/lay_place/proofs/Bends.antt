@@ -5,6 +5,7 @@ use Rattle.std.proofs.lemmas.Bool.Decides.{nat_tests}
 use borrow.Author.Differences.{same_in, same_out, sum_is_lem, neg_is, product_is}
 use Rattle.std.specs.Prelude.{ℤ, pos, ◌-ℤ◌, ◌*ℤ◌}
 use Rattle.ct_geometry.specs.Turns.{Sign, Negative, Null, Positive, sign, Vector, ray, cross, side_of, flipped}
+use Rattle.ct_geometry.proofs.Integers.{positive}
 use Rattle.lay_place.specs.Rows.{Bends, parabola, is_inside, same}
 use Rattle.lay_place.proofs.Turns.{next_corner, other_way}
 
@@ -61,10 +62,6 @@ pub not_straight : (c : ℕ → Vector) → Bends c → (u w m : ℕ) → u ≢ 
 not_straight c bends u w m different not_u not_w e = side_some (nat_lt u w) (is_inside u m w) (sym (side_is c bends u w m different not_u not_w) ∙ e)
 
 -- ---- the parabola
-
-positive : (n : ℕ) → 0 < n → sign (pos n) ≡ Positive
-positive zero some = absurd (omega arith)
-positive (suc n) some = refl
 
 -- three places i, i + d and i + d + e
 module _ (a b i : ℕ) where

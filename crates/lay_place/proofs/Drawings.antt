@@ -30,7 +30,7 @@ use Rattle.lay_place.specs.Asks.{Stands}
 use Rattle.lay_place.proofs.Middles.{middle_either, one_middle, not_middle}
 use Rattle.lay_place.proofs.Bends.{side_by, side_is, side_some}
 use Rattle.lay_place.proofs.Neighbours.{one_half, bond_at, across}
-use Rattle.lay_place.proofs.Counted.{find_one, find_two, one_no}
+use Rattle.ct_geometry.proofs.Counted.{find_one, find_two, one_no}
 use Rattle.lay_place.proofs.Wanted.{other_apart, turned_ends}
 use Rattle.lay_place.proofs.Ends.{two_singles, four_singles}
 use Rattle.lay_place.proofs.Choices.{wanted, two_sides}

@@ -19,7 +19,7 @@ use Rattle.lay_place.specs.declared.asking.Named.{Named}
 use Rattle.ct_geometry.specs.Drawn.{IsOther}
 use Rattle.lay_place.specs.Wanted.{MayBePlaced, FreeDouble, named_at, named_by, is_centre, others, first_named}
 use Rattle.lay_place.proofs.Neighbours.{half_at, places_apart}
-use Rattle.lay_place.proofs.Counted.{one_no, two_no, three_yes, all_pass}
+use Rattle.ct_geometry.proofs.Counted.{one_no, two_no, three_yes, all_pass}
 
 -- ---- what the tests say
 

@@ -33,13 +33,6 @@ may_be m rings is are centres sides = record {
     bond_small : (k : ℕ) (s : Sides) → slice_get m.sides k ≡ Some (Some s) → k < length m.bonds
     bond_small k s at = let within = slice_get_within m.sides k (Some s) at in let count = is.side_count in omega arith
 
--- one more number has the property
-pub one_more_fits : (P : ℕ → Type 0) (i : ℕ) → ((j : ℕ) → j < i → P j) → P i → (j : ℕ) → j < i + 1 → P j
-one_more_fits P i before now j less = elim (cases_lt j i) [
-  | inl earlier ↦ before j earlier
-  | inr later ↦ let same : i ≡ j = omega arith in subst P same now
-]
-
 -- a half-edge leads to a joined atom
 pub leads_joined : (m : Molecule) (a : AtomId) → AllHaveTwins m a → (i : ℕ) (half : HalfEdge) → slice_get (half_edges m a.0) i ≡ Some half → are_joined m.bonds a.0 half.to.0 ≡ true
 leads_joined m a twins i half at = let t = twins i half at in joined_at m.bonds half.bond.0 t.bond a.0 half.to.0 t.is_bond t.joined

@@ -5,7 +5,6 @@ pub mod Inserts
 pub mod Asks
 pub mod Neighbours
 pub mod Wanted
-pub mod Counted
 pub mod Ends
 pub mod Walk
 pub mod Choices

@@ -1,7 +1,7 @@
 -- Middle rays: at most one of three, and neither of two that stand on both sides of the third.
 use Rattle.std.proofs.Common.{◌≡◌, ◌≢◌, ◌∙◌, Bool, true, false, refl, sym, ap, ◌||◌, ◌&&◌, not}
 use Rattle.ct_geometry.specs.Turns.{Sign, Negative, Null, Positive, Vector, turn, is_positive, meets, is_middle, flipped}
-use Rattle.lay_place.proofs.Turns.{turned_round}
+use Rattle.ct_geometry.proofs.Integers.{turned_round}
 
 -- by the turns from p to q, from q to r and from p to r
 abbrev middle_by : Sign → Sign → Sign → Bool

@@ -17,6 +17,7 @@ use Rattle.mc_mol.proofs.Halves.{same_test}
 use Rattle.mc_mol.proofs.Apart.{joins_cases}
 use Rattle.mc_mol.specs.ClosedPaths.{IsRingOf}
 use Rattle.ct_geometry.specs.Drawn.{IsOther}
+pub use Rattle.ct_geometry.proofs.Alone.{one_half}
 
 pub bond_at : (n : ℕ) (bonds : List Bond) (k : ℕ) (bond : Bond) → All (IsBond n) bonds → slice_get bonds k ≡ Some bond → IsBond n bond
 bond_at n [] k bond all e = cc
@@ -85,10 +86,6 @@ pub other_of : (m : Molecule) (k a c j : ℕ) (bond : Bond) → slice_get m.bond
 other_of m k a c j bond at joined other =
     let h = half_at m a c j bond at joined in
     record { place = h.place; half = h.half; is_half = h.is_half; other = λ e. other (sym h.bond_is ∙ e); leads = h.leads }
-
--- a half-edge is told by its place
-pub one_half : (halves : List HalfEdge) (i j : ℕ) (g h : HalfEdge) → i ≡ j → slice_get halves i ≡ Some g → slice_get halves j ≡ Some h → g ≡ h
-one_half halves i j g h same at_g at_h = same_Some g h (sym at_g ∙ ap (slice_get halves) same ∙ at_h)
 
 -- different neighbours have half-edges at different places
 pub places_apart : (m : Molecule) (a i j c d : ℕ) (g h : HalfEdge) → slice_get (half_edges m a) i ≡ Some g → slice_get (half_edges m a) j ≡ Some h → g.to.0 ≡ c → h.to.0 ≡ d → c ≢ d → i ≢ j

@@ -7,6 +7,8 @@ use native.Mathlib.Nat.{mul-le-mul, mul-le-mul_left}
 use Rattle.mc_mol.proofs.Numbered.{none_marked, length-none}
 use Rattle.std.proofs.Common.{take, drop, replicate}
 use Rattle.std.specs.Prelude.{pos, map}
+use Rattle.std.proofs.lemmas.List.{get_or-map}
+use Rattle.std.proofs.Math.Seq.{take-append_seam}
 use Rattle.mc_base.specs.declared.ids.AtomId.{AtomId}
 use Rattle.mc_mol.specs.declared.parts.Slot.{Slot}
 use Rattle.mc_mol.specs.Molecule.{Molecule}
@@ -26,7 +28,7 @@ use Rattle.lay_place.specs.Curve.{place_or, place_of, place_in, moved, IsRow, Ar
 use Rattle.lay_place.proofs.Bends.{parabola_bends}
 use Rattle.lay_place.proofs.Inserts.{shift_below, shift_within}
 use Rattle.lay_place.proofs.Asks.{with_new, with_old, stands_with}
-use Rattle.lay_place.proofs.Counted.{find_one}
+use Rattle.ct_geometry.proofs.Counted.{find_one}
 use Rattle.lay_place.proofs.Wanted.{is_asking}
 use Rattle.lay_place.proofs.Choices.{not_yet}
 use Rattle.lay_place.proofs.Served.{in_range}
@@ -144,11 +146,6 @@ length_of_map : {X Y : Type 0} (f : X → Y) (xs : List X) → length (map f xs)
 length_of_map f [] = refl
 length_of_map f (x ∷ xs) = ap suc (length_of_map f xs)
 
-get_of_map : {X Y : Type 0} (f : X → Y) (xs : List X) (i : ℕ) (d : Y) (e : X) → i < length xs → get_or (map f xs) i d ≡ f (get_or xs i e)
-get_of_map f [] i d e within = absurd (omega arith)
-get_of_map f (x ∷ xs) zero d e within = refl
-get_of_map f (x ∷ xs) (suc i) d e within = get_of_map f xs i d e (omega arith)
-
 place_in_or : (o : Option ℕ) → place_in o ≡ place_or (Some o)
 place_in_or None = refl
 place_in_or (Some p) = refl
@@ -219,7 +216,7 @@ module _ (m : Molecule) (rings : RingList) (may : MayBePlaced m rings) (places :
       is_at a small =
           let within : a < length places = (let count = row.count in omega arith) in
           ap (λ (ps : List Point). at ps a) on.points
-          ∙ ap place (get_of_map (λ (slot : Option ℕ). on_parabola on.wide on.high (place_in slot)) places a (record { x = pos 0; y = pos 0 }) None within)
+          ∙ ap place (get_or-map (λ (slot : Option ℕ). on_parabola on.wide on.high (place_in slot)) places a None (record { x = pos 0; y = pos 0 }) within)
           ∙ ap (λ (i : ℕ). parabola on.wide on.high i) (slot_of places a within)
 
       low : (a : ℕ) → a < length m.atoms → place_of places a ≤ length places - 1
@@ -263,16 +260,11 @@ row_none m rings n places count is = record {
     never : (a : ℕ) → IsBefore rings.order 0 a → ⊥
     never a (i, less, at) = absurd (omega arith)
 
-take_back : {X : Type 0} (xs ys : List X) → take (length xs) (xs ++ ys) ≡ xs
-take_back {X = X} [] [] = refl
-take_back {X = X} [] (y ∷ ys) = refl
-take_back {X = X} (x ∷ xs) ys = ap (λ (zs : List X). x ∷ zs) (take_back xs ys)
-
 -- the places lent, the room made in them, and given back
 pub room_back : (places room : List (Option ℕ)) (k len : ℕ) → room ≡ map (moved k) places → len ≡ length places → take len (room ++ drop (length room) places) ≡ map (moved k) places
 room_back places room k len room_is len_is =
     let count : len ≡ length room = len_is ∙ sym (length_map k places) ∙ ap (λ (xs : List (Option ℕ)). length xs) (sym room_is) in
-    ap (λ (n : ℕ). take n (room ++ drop (length room) places)) count ∙ take_back room (drop (length room) places) ∙ room_is
+    ap (λ (n : ℕ). take n (room ++ drop (length room) places)) count ∙ take-append_seam room (drop (length room) places) ∙ room_is
 
 module _ (m : Molecule) (rings : RingList) (may : MayBePlaced m rings) where
   pub order_at : (done : ℕ) (order : List AtomId) (d : AtomId) → order ≡ rings.order → done < length order → slice_get rings.order done ≡ Some (get_or order done d)

@@ -1,39 +1,9 @@
 -- Turns of rays: what signs of cross products say of each other.
-use Rattle.std.proofs.Common.{◌≡◌, ◌∙◌, ℕ, zero, suc, ◌+◌, ◌*◌, arith, refl, sym, ap}
-use Rattle.std.proofs.lemmas.Int.{ints}
-use borrow.Author.Differences.{up, down, same_in, same_out, sum_is_lem, neg_is, product_is}
-use Rattle.std.specs.Prelude.{ℤ, pos, negsuc, neg_ℤ, ◌+ℤ◌, ◌-ℤ◌, ◌*ℤ◌}
-use Rattle.ct_geometry.specs.Turns.{sign, Vector, ray, cross, turn, side_of, flipped}
-
-sign_neg : (z : ℤ) → sign (neg_ℤ z) ≡ flipped (sign z)
-sign_neg (pos zero) = refl
-sign_neg (pos (suc n)) = refl
-sign_neg (negsuc n) = refl
-
-minus_times : (a b c : ℤ) → (a -ℤ b) *ℤ c ≡ (a *ℤ c) -ℤ (b *ℤ c)
-minus_times a b c =
-    let d = a -ℤ b in
-    let sum : up d + down a + up b ≡ down d + up a + down b = omega (arith, sum_is_lem, neg_is) in
-    let above = ap (λ (x : ℕ). x * up c) sum in
-    let below = ap (λ (x : ℕ). x * down c) sum in
-    omega (arith, same_in, sum_is_lem, neg_is, product_is, above, below)
-
-times_minus : (a b c : ℤ) → a *ℤ (b -ℤ c) ≡ (a *ℤ b) -ℤ (a *ℤ c)
-times_minus a b c =
-    let d = b -ℤ c in
-    let sum : up d + down b + up c ≡ down d + up b + down c = omega (arith, sum_is_lem, neg_is) in
-    let above = ap (λ (x : ℕ). x * up a) sum in
-    let below = ap (λ (x : ℕ). x * down a) sum in
-    omega (arith, same_in, sum_is_lem, neg_is, product_is, above, below)
-
-differences_times : (a b c d : ℤ) → (a -ℤ b) *ℤ (c -ℤ d) ≡ ((a *ℤ c) -ℤ (a *ℤ d)) -ℤ ((b *ℤ c) -ℤ (b *ℤ d))
-differences_times a b c d = minus_times a b (c -ℤ d) ∙ ap (λ (x : ℤ). x -ℤ (b *ℤ (c -ℤ d))) (times_minus a c d) ∙ ap (λ (x : ℤ). ((a *ℤ c) -ℤ (a *ℤ d)) -ℤ x) (times_minus b c d)
-
--- the second ray first
-pub turned_round : (p q : Vector) → turn q p ≡ flipped (turn p q)
-turned_round p q =
-    let e : cross q p ≡ neg_ℤ (cross p q) = omega (arith, ints) in
-    ap sign e ∙ sign_neg (cross p q)
+use Rattle.std.proofs.Common.{◌≡◌, ◌∙◌, arith, sym, ap}
+use borrow.Author.Differences.{same_in, same_out, sum_is_lem, neg_is, product_is}
+use Rattle.std.specs.Prelude.{ℤ, ◌+ℤ◌, ◌-ℤ◌, ◌*ℤ◌}
+use Rattle.ct_geometry.specs.Turns.{sign, Vector, ray, cross, side_of, flipped}
+use Rattle.ct_geometry.proofs.Integers.{differences_times, turned_round}
 
 -- twice the area of a triangle, with its sign
 abbrev area : (px py qx qy rx ry : ℤ) → ℤ

@@ -15,7 +15,7 @@ use Rattle.ct_geometry.specs.Drawn.{IsOther}
 use Rattle.lay_place.specs.Wanted.{MayBePlaced, FreeDouble}
 use Rattle.lay_place.specs.Walk.{IsBefore, IsLastEnd, IsLastSide}
 use Rattle.lay_place.proofs.Neighbours.{bond_at, joins_back, joins_apart, across}
-use Rattle.lay_place.proofs.Counted.{two_yes}
+use Rattle.ct_geometry.proofs.Counted.{two_yes}
 use Rattle.lay_place.proofs.Wanted.{turned_ends, ends_differ}
 use Rattle.lay_place.proofs.Ends.{asks_once}
 

@@ -1,3 +1,4 @@
+mod any_drawing;
 mod read_back;
 mod skeletons;
 mod small_graphs;

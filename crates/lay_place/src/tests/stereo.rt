@@ -153,7 +153,7 @@ fn centre_fits(mol: &Mol, rings: &Rings, a: AtomId) -> bool
     }
 }
 
-#[tactic(auto, using(crate::proofs::Fitted::one_more_fits))]
+#[tactic(auto, using(ct_geometry::proofs::Loops::each_more))]
 fn centres_fit(mol: &Mol, rings: &Rings) -> bool
     requires { AreRingsOf mol.now rings.now }
     ensures { result ≡ true → (a : ℕ) → a < length mol.now.atoms → CentreFits mol.now rings.now.sizes a }
@@ -178,7 +178,7 @@ fn sides_fit_at(mol: &Mol, rings: &Rings, k: BondId) -> bool
     }
 }
 
-#[tactic(auto, using(crate::proofs::Fitted::one_more_fits))]
+#[tactic(auto, using(ct_geometry::proofs::Loops::each_more))]
 fn sides_fit(mol: &Mol, rings: &Rings) -> bool
     requires { AreRingsOf mol.now rings.now }
     ensures { result ≡ true → (k : ℕ) → k < length mol.now.bonds → SideFits mol.now rings.now.sizes k }

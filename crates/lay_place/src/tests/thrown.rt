@@ -9,13 +9,17 @@ use std::process::Abort;
 use std::test::Fail;
 
 #[derive(Drop)]
-struct Dice {
+pub struct Dice {
     state: u32,
 }
 
 impl Dice {
+    pub fn new(state: u32) -> Dice {
+        Dice { state }
+    }
+
     /// A number below the number of sides.
-    fn roll(&mut self, sides: u32) -> u32 {
+    pub fn roll(&mut self, sides: u32) -> u32 {
         self.state = self
             .state
             .wrapping_mul(1_664_525)
@@ -24,7 +28,7 @@ impl Dice {
     }
 }
 
-fn thrown(alloc: Global, dice: &mut Dice) -> Result<Mol, NoMemory> {
+pub fn thrown(alloc: Global, dice: &mut Dice) -> Result<Mol, NoMemory> {
     let count = dice.roll(11).wrapping_add(2);
     let mut mol = carbons(alloc, count)?;
     for v in 1..count {
@@ -57,7 +61,7 @@ fn is_right(alloc: Global, mol: &mut Mol, pattern: u32) -> Result<bool, NoMemory
 
 #[test]
 fn many_molecules(rt: HostRuntime) -> Result<(), Fail> {
-    let mut dice = Dice { state: 20_261_201 };
+    let mut dice = Dice::new(20_261_201);
     for _ in 0..20_000 {
         let mut mol = thrown(rt.alloc(), &mut dice)?;
         let pattern = dice.roll(16_777_216);

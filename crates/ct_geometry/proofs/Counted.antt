@@ -38,6 +38,13 @@ two_yes p (z ∷ xs) i zero x y less at_x at_y px py = absurd (omega arith)
 two_yes p (z ∷ xs) zero (suc j) x y less at_x at_y px py = let e = counted p z xs (ap p (same_Some z x at_x) ∙ px) in let f = one_yes p xs j y at_y py in omega arith
 two_yes p (z ∷ xs) (suc i) (suc j) x y less at_x at_y px py = let e = two_yes p xs i j x y (omega arith) at_x at_y px py in let f = at_least_rest p z xs in omega arith
 
+-- two different places
+pub two_apart : {X : Type 0} (p : X → Bool) (xs : List X) (i j : ℕ) (x y : X) → i ≢ j → slice_get xs i ≡ Some x → slice_get xs j ≡ Some y → p x ≡ true → p y ≡ true → 2 ≤ count_by p xs
+two_apart p xs i j x y different at_x at_y px py = elim (cases_lt i j) [
+  | inl less ↦ two_yes p xs i j x y less at_x at_y px py
+  | inr more ↦ two_yes p xs j i y x (omega arith) at_y at_x py px
+]
+
 three_yes_sorted : {X : Type 0} (p : X → Bool) (xs : List X) (i j k : ℕ) (x y z : X) → i < j → j < k → slice_get xs i ≡ Some x → slice_get xs j ≡ Some y → slice_get xs k ≡ Some z
     → p x ≡ true → p y ≡ true → p z ≡ true → 3 ≤ count_by p xs
 three_yes_sorted p [] i j k x y z ij jk at_x at_y at_z px py pz = cc
