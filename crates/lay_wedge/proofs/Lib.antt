@@ -1,0 +1,4 @@
+pub mod Changed
+pub mod Giving
+pub mod Started
+pub mod Fitted
