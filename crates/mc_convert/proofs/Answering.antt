@@ -1,12 +1,13 @@
 -- The cases of an answer.
 use Rattle.std.proofs.Common.{arith, ◌≡◌, ◌∙◌, ℕ, List, [], ◌∷◌, ◌++◌, Bool, true, false, refl, sym, ap, subst, inl, inr}
 use Rattle.std.specs.List.{list_all}
-use Rattle.std.specs.Prelude.{◌↔◌, ◌<◌, ◌||◌, ◌==◌, IsTrue, not, nat_le, if◌then◌else◌, filter, map, cond, Option, Some, None}
+use Rattle.std.specs.Prelude.{◌↔◌, ◌<◌, ◌||◌, ◌==◌, IsTrue, not, nat_le, if◌then◌else◌, filter, map, cond}
 use Rattle.std.proofs.lemmas.Bool.Decides.{nat_tests}
 use Rattle.std.proofs.lemmas.Bool.{false≢true, and_parts}
 use Rattle.mc_base.specs.declared.kind.Kind.{Kind}
 use Rattle.mc_base.specs.declared.kind.Kind.TheVariants.{LineTooLong}
 use Rattle.mc_base.specs.declared.refusal.Refusal.{Refusal}
+use Rattle.mc_base.specs.declared.span.Span.{Span}
 use Rattle.mc_base.specs.Kinds.{number}
 use Rattle.mc_io.specs.Lines.{line_feed, carriage_return, onto_first, pieces, onto_text, text_of as line_text_of, has_feed, IsLineText}
 use Rattle.mc_mol.specs.Molecule.{Molecule}
@@ -15,9 +16,15 @@ use Rattle.smi_mean.specs.Lines.{is_blank, text_of, name_of}
 use Rattle.smi_mean.specs.Rules.{SmilesStands}
 use Rattle.smi_mean.specs.Written.{written_text}
 use Rattle.mc_convert.specs.declared.answer.Answer.{Answer}
-use Rattle.mc_convert.specs.Records.{is_some_text, record_texts, with_name, line}
-use Rattle.mc_convert.specs.Answers.{StandsIn, written_line, Shows, IsRefusedFor, IsAnswer}
+use Rattle.mc_convert.specs.declared.formats.Target.{Target}
+use Rattle.mc_convert.specs.declared.formats.Target.TheVariants.{Smi}
+use Rattle.mc_convert.specs.declared.given.Given.{Given}
+use Rattle.mc_convert.specs.declared.given.Given.TheVariants.{Line as GivenLine, TooLong as GivenLong}
+use Rattle.mc_convert.specs.Records.{IsGiven, Record, Line, TooLong, is_some_text, line, name_in, record_of, record_texts, with_name}
+use Rattle.mc_convert.specs.Answers.{StandsIn, RecordStands, Shows, IsAnswer}
+use Rattle.mc_convert.specs.declared.record_read.RecordRead.TheVariants.{Refused, Stands}
 use Rattle.mc_convert.specs.Accepted.{IsAccepted}
+use Rattle.mc_convert.specs.Findings.{IsReadAs}
 use Rattle.mc_convert.specs.Runs.{IsShown}
 
 -- ---- a written line is one record
@@ -155,18 +162,23 @@ parts_of (b ∷ bs) (c ∷ cs) h = text_before (b ∷ bs) (c ∷ cs) h
 
 -- ---- answers
 
-pub is_written : (k : ℕ) (bytes name : List ℕ) (m : Molecule) (answer : Answer) → IsLineText bytes → name ≡ name_of bytes → SmilesStands (text_of bytes) m → IsAccepted k m name answer
-    → IsAnswer k (Some bytes) record { out = answer.out; report = answer.report }
-is_written k bytes name m answer one named stands a =
+-- what is written is one record
+line_alone : (bytes text : List ℕ) → record_texts bytes ≡ text ∷ [] → map Line (record_texts bytes) ≡ Line text ∷ []
+line_alone bytes text is = ap (map Line) is
+
+written : (to : Target) (k : ℕ) (given : Given) (m : Molecule) (answer : Answer) → IsGiven given → RecordStands (record_of given) m → IsAccepted to k m (name_in (record_of given)) answer
+    → IsAnswer to k (record_of given) record { out = answer.out; report = answer.report }
+written Smi k GivenLong m answer given stands a = absurd stands
+written Smi k (GivenLine text) m answer given stands a =
+    let bytes = text.now in
     let back = a.reads in
     let parts = parts_of (written_text m) (name_of bytes) (no_blanks (written_text m) a.no_blanks) in
-    let out : answer.out ≡ line (written_line m bytes) = a.out ∙ ap (λ (x : List ℕ). line (with_name (written_text m) x)) named in
     inl (record {
       input = m;
       output = back.molecule;
       stands = stands;
-      form = out;
-      one_record = ap record_texts out ∙ one_record (written_text m) bytes a.no_blanks one;
+      form = a.out;
+      one_record = line_alone answer.out (with_name (written_text m) (name_of bytes)) (ap record_texts a.out ∙ one_record (written_text m) bytes a.no_blanks given.one);
       name = parts.1;
       reads = subst (λ (x : List ℕ). SmilesStands x back.molecule) (sym parts.0) back.reads;
       only = λ other h. back.only other (subst (λ (x : List ℕ). SmilesStands x other) parts.0 h);
@@ -174,37 +186,42 @@ is_written k bytes name m answer one named stands a =
       report = a.report;
     })
 
-pub none_shown : (bytes : List ℕ) (m : Molecule) (b : Bool) → b ≡ false → SmilesStands (text_of bytes) m → IsTrue b ↔ IsShown (Some bytes)
-none_shown bytes m b off stands = (λ on. absurd (false≢true (sym off ∙ on)), λ (refusal, shows). absurd (stands.accepted refusal.kind refusal.place shows.stands))
+-- an accepted record isn't refused
+accepted_is : (to : Target) (k : ℕ) (m : Molecule) (name : List ℕ) (answer : Answer) → IsAccepted to k m name answer → answer.refused ≡ false
+accepted_is Smi k m name answer a = a.accepted
+
+-- a record that stands for a molecule shows no refusal
+pub not_shown : (to : Target) (given : Record) (m : Molecule) → RecordStands given m → IsShown to given → ⊥
+not_shown to TooLong m stands shown = stands
+not_shown to (Line text) m stands (refusal, shows) = stands.accepted refusal.kind refusal.place shows.stands
+
+pub is_written : (to : Target) (k : ℕ) (given : Given) (m : Molecule) (at : Span) (name : List ℕ) (answer : Answer) → IsGiven given → IsReadAs (record_of given) (Stands m at) → name ≡ name_in (record_of given)
+    → IsAccepted to k m name answer → IsAnswer to k (record_of given) record { out = answer.out; report = answer.report }
+is_written to k given m at name answer whole read named a =
+    written to k given m answer whole read.stands (subst (λ (x : List ℕ). IsAccepted to k m x answer) named a)
+
+pub none_shown : (to : Target) (k : ℕ) (given : Record) (m : Molecule) (at : Span) (name : List ℕ) (answer : Answer) → IsReadAs given (Stands m at) → IsAccepted to k m name answer → IsTrue answer.refused ↔ IsShown to given
+none_shown to k given m at name answer read a =
+    (λ on. absurd (false≢true (sym (accepted_is to k m name answer a) ∙ on)), λ shown. absurd (not_shown to given m read.stands shown))
 
 -- a refusal that is shown is an answer
-refused_for : (k : ℕ) (text : Option (List ℕ)) (refusal : Refusal) (answer : Answer) → Shows text refusal → answer ≡ record { out = []; report = refused_line k refusal; refused = true }
-    → IsRefusedFor k text record { out = answer.out; report = answer.report }
-refused_for k text refusal answer shows is = record { refusal = refusal; shows = shows; out = ap (λ (a : Answer). a.out) is; report = ap (λ (a : Answer). a.report) is }
+pub is_refused : (to : Target) (k : ℕ) (given : Record) (refusal : Refusal) (answer : Answer) → IsReadAs given (Refused refusal) → answer ≡ record { out = []; report = refused_line k refusal; refused = true }
+    → IsAnswer to k given record { out = answer.out; report = answer.report }
+is_refused to k given refusal answer read is =
+    inr (record { refusal = refusal; shows = read to; out = ap (λ (a : Answer). a.out) is; report = ap (λ (a : Answer). a.report) is })
 
-pub is_refused : (k : ℕ) (bytes : List ℕ) (refusal : Refusal) (answer : Answer) → Shows (Some bytes) refusal → answer ≡ record { out = []; report = refused_line k refusal; refused = true }
-    → IsAnswer k (Some bytes) record { out = answer.out; report = answer.report }
-is_refused k bytes refusal answer shows is = inr (refused_for k (Some bytes) refusal answer shows is)
-
-pub is_shown : (k : ℕ) (text : Option (List ℕ)) (refusal : Refusal) (answer : Answer) → Shows text refusal → answer ≡ record { out = []; report = refused_line k refusal; refused = true }
-    → IsTrue answer.refused ↔ IsShown text
-is_shown k text refusal answer shows is = (λ _. (refusal, shows), λ _. ap (λ (a : Answer). a.refused) is)
+pub is_shown : (to : Target) (k : ℕ) (given : Record) (refusal : Refusal) (answer : Answer) → IsReadAs given (Refused refusal) → answer ≡ record { out = []; report = refused_line k refusal; refused = true }
+    → IsTrue answer.refused ↔ IsShown to given
+is_shown to k given refusal answer read is = (λ _. (refusal, read to), λ _. ap (λ (a : Answer). a.refused) is)
 
 -- ---- a line that is too long
 
 abbrev long_refusal : Refusal
 long_refusal = record { kind = LineTooLong; place = 1; barrier = []; odd = 0 }
 
-long_shown : Shows None long_refusal
-long_shown = record { stands = refl; least = λ place h. omega arith; first = none_first; reason = (refl, refl) }
+pub long_shown : (to : Target) → Shows to TooLong long_refusal
+long_shown to = record { stands = refl; least = λ place h. omega arith; first = none_first; reason = (refl, refl) }
   where
-    none_first : (kind : Kind) (place : ℕ) → number kind < number LineTooLong → StandsIn None kind place → ⊥
+    none_first : (kind : Kind) (place : ℕ) → number kind < number LineTooLong → StandsIn to TooLong kind place → ⊥
     none_first LineTooLong place less h = omega arith
     none_first _ place less h = h
-
-pub long_refused : (k : ℕ) (answer : Answer) → answer ≡ record { out = []; report = refused_line k long_refusal; refused = true }
-    → IsAnswer k None record { out = answer.out; report = answer.report }
-long_refused k answer is = refused_for k None long_refusal answer long_shown is
-
-pub long_is_shown : (k : ℕ) (answer : Answer) → answer ≡ record { out = []; report = refused_line k long_refusal; refused = true } → IsTrue answer.refused ↔ IsShown None
-long_is_shown k answer is = is_shown k None long_refusal answer long_shown is

@@ -2,15 +2,24 @@
 use Rattle.std.proofs.Common.{◌≡◌, ℕ, List, Option, Some, None, refl, sym, subst, inl, inr}
 use Rattle.mc_base.specs.declared.ids.AtomId.{AtomId}
 use Rattle.mc_base.specs.declared.refusal.Refusal.{Refusal}
+use Rattle.mc_base.specs.declared.span.Span.{Span}
+use Rattle.mc_base.specs.declared.verdict.Verdict.{Verdict}
+use Rattle.mc_mol.specs.Molecule.{Molecule}
+use Rattle.mc_same.specs.Differences.{IsVerdict}
 use Rattle.mc_report.specs.declared.report_line.ReportLine.{ReportLine}
 use Rattle.mc_report.specs.declared.report_line.ReportLine.TheVariants.{Ok as OkLine, Refused as RefusedLine}
 use Rattle.mc_report.specs.Grammar.{number_of}
 use Rattle.mc_io.specs.Lines.{lines_of}
+use Rattle.mc_convert.specs.declared.formats.Target.{Target}
+use Rattle.mc_convert.specs.Formats.{read_back}
+use Rattle.mc_convert.specs.Records.{Record}
 use Rattle.mc_convert.specs.declared.finding.Finding.{Finding}
-use Rattle.mc_convert.specs.declared.finding.Finding.TheVariants.{Report}
+use Rattle.mc_convert.specs.declared.finding.Finding.TheVariants.{Input, Map, Output, Report}
 use Rattle.mc_convert.specs.declared.record_read.RecordRead.{RecordRead}
+use Rattle.mc_convert.specs.declared.record_read.RecordRead.TheVariants.{Refused, Stands}
 use Rattle.mc_convert.specs.Records.{records}
-use Rattle.mc_convert.specs.Findings.{Says, IsMapFinding, IsRefusalFinding, AreReadAs}
+use Rattle.mc_convert.specs.Answers.{Shows}
+use Rattle.mc_convert.specs.Findings.{Says, IsMapFinding, IsReadAs, IsRefusalFinding, AreReadAs}
 use Rattle.mc_convert.specs.Checks.{first}
 use Rattle.mc_convert.specs.CheckSteps.{ReadsNext, SaidNext, FindsNext}
 
@@ -32,16 +41,16 @@ refused_not_ok n m refusal map e = cc
 none_not_some : (said : ReportLine) → None ≡ Some said → ⊥
 none_not_some said e = cc
 
-pub written_found : (k n : ℕ) (original : Option (List ℕ)) (c c' r r' : Option (List ℕ)) (map : List AtomId) (read : Option RecordRead) (finding : Finding)
-    → SaidNext k r r' (Some (OkLine n map)) → ReadsNext records c c' read → ((next : Option (Option (List ℕ))) → AreReadAs next read → IsMapFinding original next map finding) → FindsNext k original c c' r r' finding
-written_found k n original None c' r r' map read finding said reads found = tt
-written_found k n original (Some c) c' None r' map read finding said reads found = tt
-written_found k n original (Some c) None (Some r) r' map read finding said reads found = absurd reads.takes
-written_found k n original (Some c) (Some c') (Some r) None map read finding said reads found = absurd said.takes
-written_found k n original (Some c) (Some c') (Some r) (Some r') map read finding said reads found =
+pub written_found : (to : Target) (k n : ℕ) (original : Record) (c c' r r' : Option (List ℕ)) (map : List AtomId) (read : Option RecordRead) (finding : Finding)
+    → SaidNext k r r' (Some (OkLine n map)) → ReadsNext (read_back to) c c' read → ((next : Option Record) → AreReadAs next read → IsMapFinding to original next map finding) → FindsNext to k original c c' r r' finding
+written_found to k n original None c' r r' map read finding said reads found = tt
+written_found to k n original (Some c) c' None r' map read finding said reads found = tt
+written_found to k n original (Some c) None (Some r) r' map read finding said reads found = absurd reads.takes
+written_found to k n original (Some c) (Some c') (Some r) None map read finding said reads found = absurd said.takes
+written_found to k n original (Some c) (Some c') (Some r) (Some r') map read finding said reads found =
     let says : Says k (first (lines_of r)) (OkLine k map) =
     subst (λ (x : Option (Option (List ℕ))). Says k x (OkLine k map)) said.takes.0 (says_ok k n said.line map ((said.says (OkLine n map)).0 refl)) in
-    let is : IsMapFinding original (first (records c)) map finding = subst (λ (x : Option (Option (List ℕ))). IsMapFinding original x map finding) reads.takes.0 (found reads.given reads.reads) in
+    let is : IsMapFinding to original (first (records (read_back to) c)) map finding = subst (λ (x : Option Record). IsMapFinding to original x map finding) reads.takes.0 (found reads.given reads.reads) in
     record {
       converted_left = c';
       report_left = r';
@@ -54,12 +63,12 @@ written_found k n original (Some c) (Some c') (Some r) (Some r') map read findin
       };
     }
 
-pub refused_found : (k n : ℕ) (original : Option (List ℕ)) (c c' r r' : Option (List ℕ)) (refusal : Refusal) (finding : Finding)
-    → SaidNext k r r' (Some (RefusedLine n refusal)) → c' ≡ c → IsRefusalFinding original refusal finding → FindsNext k original c c' r r' finding
-refused_found k n original None c' r r' refusal finding said same found = tt
-refused_found k n original (Some c) c' None r' refusal finding said same found = tt
-refused_found k n original (Some c) c' (Some r) None refusal finding said same found = absurd said.takes
-refused_found k n original (Some c) c' (Some r) (Some r') refusal finding said same found =
+pub refused_found : (to : Target) (k n : ℕ) (original : Record) (c c' r r' : Option (List ℕ)) (refusal : Refusal) (finding : Finding)
+    → SaidNext k r r' (Some (RefusedLine n refusal)) → c' ≡ c → IsRefusalFinding to original refusal finding → FindsNext to k original c c' r r' finding
+refused_found to k n original None c' r r' refusal finding said same found = tt
+refused_found to k n original (Some c) c' None r' refusal finding said same found = tt
+refused_found to k n original (Some c) c' (Some r) None refusal finding said same found = absurd said.takes
+refused_found to k n original (Some c) c' (Some r) (Some r') refusal finding said same found =
     let says : Says k (first (lines_of r)) (RefusedLine k refusal) =
     subst (λ (x : Option (Option (List ℕ))). Says k x (RefusedLine k refusal)) said.takes.0 (says_refused k n said.line refusal ((said.says (RefusedLine n refusal)).0 refl)) in
     record {
@@ -74,11 +83,11 @@ refused_found k n original (Some c) c' (Some r) (Some r') refusal finding said s
       };
     }
 
-pub nothing_found : (k : ℕ) (original : Option (List ℕ)) (c c' r r' : Option (List ℕ)) → SaidNext k r r' None → c' ≡ c → FindsNext k original c c' r r' Report
-nothing_found k original None c' r r' said same = tt
-nothing_found k original (Some c) c' None r' said same = tt
-nothing_found k original (Some c) c' (Some r) None said same = absurd said.takes
-nothing_found k original (Some c) c' (Some r) (Some r') said same =
+pub nothing_found : (to : Target) (k : ℕ) (original : Record) (c c' r r' : Option (List ℕ)) → SaidNext k r r' None → c' ≡ c → FindsNext to k original c c' r r' Report
+nothing_found to k original None c' r r' said same = tt
+nothing_found to k original (Some c) c' None r' said same = tt
+nothing_found to k original (Some c) c' (Some r) None said same = absurd said.takes
+nothing_found to k original (Some c) c' (Some r) (Some r') said same =
     let nothing : (other : ReportLine) → Says k (first (lines_of r)) other → ⊥ =
     λ other h. none_not_some other ((said.says other).1 (subst (λ (x : Option (Option (List ℕ))). Says k x other) (sym said.takes.0) h)) in
     record {
@@ -94,9 +103,36 @@ nothing_found k original (Some c) c' (Some r) (Some r') said same =
     }
 
 -- the same with another reader's step between
-pub written_between : (k n : ℕ) (original : Option (List ℕ)) (c c1 c' r r1 r' : Option (List ℕ)) (map : List AtomId) (read : Option RecordRead) (finding : Finding)
-    → SaidNext k r r1 (Some (OkLine n map)) → ReadsNext records c1 c' read → ((next : Option (Option (List ℕ))) → AreReadAs next read → IsMapFinding original next map finding)
-    → c1 ≡ c → r' ≡ r1 → FindsNext k original c c' r r' finding
-written_between k n original c c1 c' r r1 r' map read finding said reads found same_c same_r =
-    written_found k n original c c' r r' map read finding (subst (λ (x : Option (List ℕ)). SaidNext k r x (Some (OkLine n map))) (sym same_r) said)
-    (subst (λ (x : Option (List ℕ)). ReadsNext records x c' read) same_c reads) found
+pub written_between : (to : Target) (k n : ℕ) (original : Record) (c c1 c' r r1 r' : Option (List ℕ)) (map : List AtomId) (read : Option RecordRead) (finding : Finding)
+    → SaidNext k r r1 (Some (OkLine n map)) → ReadsNext (read_back to) c1 c' read → ((next : Option Record) → AreReadAs next read → IsMapFinding to original next map finding)
+    → c1 ≡ c → r' ≡ r1 → FindsNext to k original c c' r r' finding
+written_between to k n original c c1 c' r r1 r' map read finding said reads found same_c same_r =
+    written_found to k n original c c' r r' map read finding (subst (λ (x : Option (List ℕ)). SaidNext k r x (Some (OkLine n map))) (sym same_r) said)
+    (subst (λ (x : Option (List ℕ)). ReadsNext (read_back to) x c' read) same_c reads) found
+
+-- ---- what is found of a record that is said to be written
+
+-- by the converted record that is next
+pub found_by_next : (to : Target) (given : Record) (next : Option Record) (read : RecordRead) (map : List AtomId) (finding : Finding) → AreReadAs next (Some read)
+    → ((converted : Record) → IsReadAs converted read → IsMapFinding to given (Some converted) map finding) → IsMapFinding to given next map finding
+found_by_next to given None read map finding also found = absurd also
+found_by_next to given (Some converted) read map finding also found = found converted also
+
+pub refused_input : (to : Target) (given next : Record) (refusal : Refusal) (map : List AtomId) → IsReadAs given (Refused refusal) → IsMapFinding to given (Some next) map Input
+refused_input to given next refusal map is = (refusal, is to)
+
+-- a record that is read as refused shows that
+pub refused_shows : (to : Target) (given : Record) (read : RecordRead) (refusal : Refusal) → read ≡ Refused refusal → IsReadAs given read → Shows to given refusal
+refused_shows to given read refusal is reads = shown_by (subst (λ (r : RecordRead). IsReadAs given r) is reads)
+  where
+    shown_by : IsReadAs given (Refused refusal) → Shows to given refusal
+    shown_by h = h to
+
+pub refused_output : (to : Target) (given next : Record) (m : Molecule) (name : Span) (refusal : Refusal) (map : List AtomId) → IsReadAs given (Stands m name) → IsReadAs next (Refused refusal)
+    → IsMapFinding to given (Some next) map Output
+refused_output to given next m name refusal map is also = record { input = m; stands = is.stands; shown = (refusal, also to) }
+
+pub both_read : (to : Target) (given next : Record) (m n : Molecule) (name other : Span) (map : List AtomId) (v : Verdict) → IsReadAs given (Stands m name) → IsReadAs next (Stands n other)
+    → IsVerdict m n map v → IsMapFinding to given (Some next) map (Map v)
+both_read to given next m n name other map v is also compared =
+    record { input = m; output = n; input_stands = is.stands; output_stands = also.stands; is = compared }

@@ -1,23 +1,24 @@
 -- What one reader of a check does, said of all three.
 use Rattle.std.proofs.Common.{arith, ◌≡◌, ℕ, zero, suc, ◌<◌, ◌≤◌, List, [], drop, Option, Some, None, refl, ap, sym, ◌∙◌, subst, inl, inr}
 use Rattle.std.specs.Prelude.{Ok, Err, Bool, IsTrue}
-use Rattle.mc_io.specs.declared.whole.ReadStop.{ReadStop}
-use Rattle.mc_io.specs.declared.whole.ReadStop.TheVariants.{ReadFault, InputLimit, NoMemory}
+use Rattle.mc_io.specs.declared.read_stop.ReadStop.{ReadStop}
+use Rattle.mc_io.specs.declared.read_stop.ReadStop.TheVariants.{ReadFault, InputLimit, NoMemory}
 use Rattle.mc_io.specs.Outside.{SameBut, Input}
 use Rattle.mc_io.specs.LineReader.{LineReader, MayGoOn, ahead, ahead_of, Reading}
 use Rattle.mc_io.specs.Lines.{lines_of}
+use Rattle.mc_convert.specs.declared.formats.Origin.{Origin}
 use Rattle.mc_convert.specs.declared.check_readers.CheckReaders.{CheckReaders}
 use Rattle.mc_convert.specs.declared.status.Halt.{Halt}
 use Rattle.mc_convert.specs.declared.status.Halt.TheVariants.{ReadFault as ReadFailedHalt, InputLimit as LimitHalt, WriteFault as WriteHalt, NoMemory as MemoryHalt}
-use Rattle.mc_convert.specs.declared.records.NextLine.{NextLine}
-use Rattle.mc_convert.specs.declared.records.NextLine.TheVariants.{Line, TooLong, End}
+use Rattle.mc_convert.specs.declared.records.Passed.{Passed}
+use Rattle.mc_convert.specs.declared.records.Passed.TheVariants.{Line, TooLong}
 use Rattle.mc_convert.specs.Records.{records}
 use Rattle.mc_convert.specs.Readers.{HasEnded, GivesRecord, GivesLine}
 use Rattle.mc_convert.specs.Statuses.{halt_of}
-use Rattle.mc_convert.specs.Findings.{met}
+use Rattle.mc_convert.specs.Findings.{line_met, record_met}
 use Rattle.mc_convert.specs.Checks.{first}
 use Rattle.mc_convert.specs.CheckSteps.{fresh_readers, MayRead, MayReadOn, AreWithin, Advance, ReadHalts, TakesFirst}
-use Rattle.mc_convert.proofs.ReaderSteps.{reading_none, reading_trans, rose_later}
+use Rattle.mc_convert.proofs.ReaderSteps.{records_of_none, reading_none, reading_trans, rose_later}
 
 -- a reader that wasn't used
 kept : (a b : LineReader) (x y : Input) → b ≡ a → y ≡ x → Reading a b x y
@@ -101,38 +102,35 @@ report_halts limit NoMemory old new before after within may o c = with_three lim
 
 -- ---- what is taken
 
-pub record_first : (next : NextLine) (all rest : Option (List ℕ)) (text : List ℕ) → GivesRecord (Ok next) all rest text → TakesFirst records all rest (met next text)
-record_first next None rest text h = tt
-record_first Line (Some all) None text h = h
-record_first Line (Some all) (Some rest) text h = (sym (ap first h), sym (ap (drop 1) h))
-record_first TooLong (Some all) None text h = h
-record_first TooLong (Some all) (Some rest) text h = (sym (ap first h), sym (ap (drop 1) h))
-record_first End (Some all) None text h = h.0
-record_first End (Some all) (Some rest) text (takes, at_end) =
-    let none : records rest ≡ [] = ap records at_end in
+pub record_first : (from : Origin) (next : Option Passed) (all rest : Option (List ℕ)) (text : List ℕ) → GivesRecord from (Ok next) all rest text → TakesFirst (records from) all rest (record_met next text)
+record_first from next None rest text h = tt
+record_first from None (Some all) None text h = h.0
+record_first from None (Some all) (Some rest) text (takes, at_end) =
+    let none : records from rest ≡ [] = ap (records from) at_end ∙ records_of_none from in
     (sym (ap first (takes ∙ none)), none ∙ sym (ap (drop 1) (takes ∙ none)))
+record_first from (Some passed) (Some all) None text h = h
+record_first from (Some passed) (Some all) (Some rest) text h = (sym (ap first h), sym (ap (drop 1) h))
 
-pub line_first : (next : NextLine) (all rest : Option (List ℕ)) (text : List ℕ) → GivesLine (Ok next) all rest text → (next ≡ End → (held : List ℕ) × (rest ≡ Some held)) → TakesFirst lines_of all rest (met next text)
+pub line_first : (next : Option Passed) (all rest : Option (List ℕ)) (text : List ℕ) → GivesLine (Ok next) all rest text → (next ≡ None → (held : List ℕ) × (rest ≡ Some held)) → TakesFirst lines_of all rest (line_met next text)
 line_first next None rest text h known = tt
-line_first Line (Some all) None text h known = h
-line_first Line (Some all) (Some rest) text h known = (sym (ap first h), sym (ap (drop 1) h))
-line_first TooLong (Some all) None text h known = h
-line_first TooLong (Some all) (Some rest) text h known = (sym (ap first h), sym (ap (drop 1) h))
-line_first End (Some all) None text h known = let k = known refl in cc
-line_first End (Some all) (Some rest) text (none_ahead, none_left) known =
+line_first None (Some all) None text h known = let k = known refl in cc
+line_first None (Some all) (Some rest) text (none_ahead, none_left) known =
     (sym (ap (λ (bytes : List ℕ). first (lines_of bytes)) none_ahead), ap lines_of none_left ∙ sym (ap (λ (bytes : List ℕ). drop 1 (lines_of bytes)) none_ahead))
+line_first (Some Line) (Some all) None text h known = h
+line_first (Some Line) (Some all) (Some rest) text h known = (sym (ap first h), sym (ap (drop 1) h))
+line_first (Some TooLong) (Some all) None text h known = h
+line_first (Some TooLong) (Some all) (Some rest) text h known = (sym (ap first h), sym (ap (drop 1) h))
 
 -- a reader that has met the end knows what is ahead
 pub ahead_known : (reader : LineReader) (left : Option (List ℕ)) → IsTrue reader.ended → (held : List ℕ) × (ahead reader left ≡ Some held)
 ahead_known reader left ended = (reader.held, ap (λ (x : Bool). ahead_of x reader.held left) ended)
 
-ended_at_end : (limit : ℕ) (next : NextLine) (reader : LineReader) (before after : Input) → HasEnded limit (Ok next) reader before after → next ≡ End → IsTrue reader.ended
-ended_at_end limit Line reader before after h e = cc
-ended_at_end limit TooLong reader before after h e = cc
-ended_at_end limit End reader before after h e = h.1
+ended_at_end : (limit : ℕ) (next : Option Passed) (reader : LineReader) (before after : Input) → HasEnded limit (Ok next) reader before after → next ≡ None → IsTrue reader.ended
+ended_at_end limit None reader before after h e = h.1
+ended_at_end limit (Some passed) reader before after h e = cc
 
-pub line_taken : (limit : ℕ) (next : NextLine) (all left : Option (List ℕ)) (reader : LineReader) (before after : Input) → GivesLine (Ok next) all (ahead reader left) reader.text
-    → HasEnded limit (Ok next) reader before after → TakesFirst lines_of all (ahead reader left) (met next reader.text)
+pub line_taken : (limit : ℕ) (next : Option Passed) (all left : Option (List ℕ)) (reader : LineReader) (before after : Input) → GivesLine (Ok next) all (ahead reader left) reader.text
+    → HasEnded limit (Ok next) reader before after → TakesFirst lines_of all (ahead reader left) (line_met next reader.text)
 line_taken limit next all left reader before after gives ended = line_first next all (ahead reader left) reader.text gives (λ e. ahead_known reader left (ended_at_end limit next reader before after ended e))
 
 -- ---- several steps

@@ -6,6 +6,11 @@ use Rattle.std.proofs.Math.Seq.{take-append_seam, drop-append_seam}
 use Rattle.std.proofs.lemmas.List.Folds.{list_all-map}
 use Rattle.mc_convert.specs.declared.command_line.Command.{Command}
 use Rattle.mc_convert.specs.declared.command_line.Command.TheVariants.{Convert, Check}
+use Rattle.mc_convert.specs.declared.formats.Formats.{Formats}
+use Rattle.mc_convert.specs.declared.formats.Origin.{Origin}
+use Rattle.mc_convert.specs.declared.formats.Origin.TheVariants.{Smi as FromSmi}
+use Rattle.mc_convert.specs.declared.formats.Target.{Target}
+use Rattle.mc_convert.specs.declared.formats.Target.TheVariants.{Smi as ToSmi}
 use Rattle.mc_convert.specs.Words.{IsCommand, IsCount, command_words, is_file}
 
 -- words that are a command's own words and files
@@ -47,6 +52,9 @@ no_files f command words front rest joined five none files is =
     (sym (list_all-map is_file f rest) ∙ (ap (list_all is_file) parts.1 ∙ is.files_are))
     (subst (λ (n : ℕ). IsCount command n) (sym (ap length parts.1) ∙ length-map rest f) is.count)
 
+abbrev formats : Origin → Target → Formats
+formats from to = record { from = from; to = to }
+
 abbrev first_length : List (List ℕ) → ℕ
 first_length [] = 0
 first_length (word ∷ words) = length word
@@ -54,14 +62,21 @@ first_length (word ∷ words) = length word
 seven_five : {X : Type 0} (n m : ℕ) → n ≡ 7 → m ≡ 5 → n ≡ m → X
 seven_five n m seven five e = absurd (omega arith)
 
+-- there is one pair of formats
+one_formats : (f g : Formats) → f ≡ g
+one_formats f g = parts f.from g.from f.to g.to
+  where
+    parts : (a b : Origin) (x y : Target) → formats a x ≡ formats b y
+    parts FromSmi FromSmi ToSmi ToSmi = refl
+
 -- two commands have no words in common
 pub one_command : (c d : Command) (words files others : List (List ℕ)) → IsCommand c words files → IsCommand d words others → c ≡ d
-one_command Convert Convert words files others is other = refl
-one_command Convert Check words files others is other =
+one_command (Convert f) (Convert g) words files others is other = ap Convert (one_formats f g)
+one_command (Convert f) (Check g) words files others is other =
     seven_five 7 5 refl refl (ap first_length (sym is.joined ∙ other.joined))
-one_command Check Convert words files others is other =
+one_command (Check f) (Convert g) words files others is other =
     seven_five 7 5 refl refl (sym (ap first_length (sym is.joined ∙ other.joined)))
-one_command Check Check words files others is other = refl
+one_command (Check f) (Check g) words files others is other = ap Check (one_formats f g)
 
 -- the words of a command have one list of files
 pub one_files : (c d : Command) (words files others : List (List ℕ)) → IsCommand c words files → IsCommand d words others → files ≡ others

@@ -9,15 +9,20 @@ use Rattle.mc_mol.specs.Molecule.{Molecule}
 use Rattle.mc_report.specs.declared.report_line.ReportLine.{ReportLine}
 use Rattle.mc_report.specs.declared.report_line.ReportLine.TheVariants.{Ok as OkLine, Refused as RefusedLine}
 use Rattle.mc_report.proofs.SpelledOnce.{spelled_once}
+use Rattle.smi_mean.specs.Lines.{text_of}
+use Rattle.smi_mean.proofs.Refusals.{one_molecule}
 use Rattle.mc_same.specs.Differences.{IsVerdict}
 use Rattle.mc_same.proofs.OneVerdict.{verdict_once}
+use Rattle.mc_convert.specs.declared.formats.Formats.{Formats}
+use Rattle.mc_convert.specs.declared.formats.Target.{Target}
+use Rattle.mc_convert.specs.Records.{Record, Line, TooLong}
+use Rattle.mc_convert.proofs.Answering.{not_shown}
 use Rattle.mc_convert.specs.declared.finding.Finding.{Finding}
 use Rattle.mc_convert.specs.declared.finding.Finding.TheVariants.{Map, Shown, Report, Missing, Input, Output, Refusal as NotShown}
 use Rattle.mc_convert.specs.Answers.{RecordStands}
 use Rattle.mc_convert.specs.Checks.{first, Remaining, Leaves, FindsOne, Finds, is_extra, verdict_lines, extra_line, extra_text, at_first, IsCheckText, IsAllTrue}
 use Rattle.mc_convert.specs.Findings.{Says, Compare, IsMapFinding, IsRefusalFinding, IsFinding, is_true, verdict_line}
 use Rattle.mc_convert.specs.Records.{records}
-use Rattle.mc_convert.specs.Runs.{IsShown}
 
 -- a line says one thing of a record
 says_once : (k : ℕ) (line : Option (Option (List ℕ))) (s t : ReportLine) → Says k line s → Says k line t → s ≡ t
@@ -26,17 +31,12 @@ says_once k (Some None) s t is also = absurd is
 says_once k (Some (Some text)) s t is also = spelled_once s t text is.0 also.0
 
 -- a record stands for one molecule
-stands_once : (text : Option (List ℕ)) (m n : Molecule) → RecordStands text m → RecordStands text n → m ≡ n
-stands_once None m n is also = absurd is
-stands_once (Some bytes) m n is also = is.molecule ∙ sym also.molecule
-
--- a record that stands for a molecule shows no refusal
-not_shown : (text : Option (List ℕ)) (m : Molecule) → RecordStands text m → IsShown text → ⊥
-not_shown None m is shown = is
-not_shown (Some bytes) m is (refusal, shows) = is.accepted refusal.kind refusal.place shows.stands
+stands_once : (text : Record) (m n : Molecule) → RecordStands text m → RecordStands text n → m ≡ n
+stands_once TooLong m n is also = absurd is
+stands_once (Line bytes) m n is also = one_molecule (text_of bytes) m n is also
 
 -- two records compare in one way under a map
-compare_once : (original converted : Option (List ℕ)) (map : List AtomId) (v w : Verdict) → Compare original converted map v → Compare original converted map w → v ≡ w
+compare_once : (original converted : Record) (map : List AtomId) (v w : Verdict) → Compare original converted map v → Compare original converted map w → v ≡ w
 compare_once original converted map v w a b =
     let input : b.input ≡ a.input = stands_once original b.input a.input b.input_stands a.input_stands in
     let output : b.output ≡ a.output = stands_once converted b.output a.output b.output_stands a.output_stands in
@@ -44,35 +44,35 @@ compare_once original converted map v w a b =
     verdict_once a.input a.output map v w a.is (subst (λ (m : Molecule). IsVerdict a.input m map w) output half)
 
 -- with no converted record left there is one finding
-none_left : (original : Option (List ℕ)) (map : List AtomId) (f : Finding) → IsMapFinding original None map f → f ≡ Missing
-none_left original map Missing is = refl
-none_left original map _ is = absurd is
+none_left : (to : Target) (original : Record) (map : List AtomId) (f : Finding) → IsMapFinding to original None map f → f ≡ Missing
+none_left to original map Missing is = refl
+none_left to original map _ is = absurd is
 
-map_once : (original : Option (List ℕ)) (next : Option (Option (List ℕ))) (map : List AtomId) (f g : Finding) → IsMapFinding original next map f → IsMapFinding original next map g → f ≡ g
-map_once original None map f g is also = none_left original map f is ∙ sym (none_left original map g also)
-map_once original (Some converted) map Input Input is also = refl
-map_once original (Some converted) map Input Output is also = absurd (not_shown original also.input also.stands is)
-map_once original (Some converted) map Input (Map w) is also = absurd (not_shown original also.input also.input_stands is)
-map_once original (Some converted) map Output Input is also = absurd (not_shown original is.input is.stands also)
-map_once original (Some converted) map Output Output is also = refl
-map_once original (Some converted) map Output (Map w) is also = absurd (not_shown converted also.output also.output_stands is.shown)
-map_once original (Some converted) map (Map v) Input is also = absurd (not_shown original is.input is.input_stands also)
-map_once original (Some converted) map (Map v) Output is also = absurd (not_shown converted is.output is.output_stands also.shown)
-map_once original (Some converted) map (Map v) (Map w) is also = ap Map (compare_once original converted map v w is also)
-map_once original (Some converted) map Shown g is also = absurd is
-map_once original (Some converted) map Report g is also = absurd is
-map_once original (Some converted) map Missing g is also = absurd is
-map_once original (Some converted) map NotShown g is also = absurd is
-map_once original (Some converted) map _ _ is also = absurd also
+map_once : (to : Target) (original : Record) (next : Option Record) (map : List AtomId) (f g : Finding) → IsMapFinding to original next map f → IsMapFinding to original next map g → f ≡ g
+map_once to original None map f g is also = none_left to original map f is ∙ sym (none_left to original map g also)
+map_once to original (Some converted) map Input Input is also = refl
+map_once to original (Some converted) map Input Output is also = absurd (not_shown to original also.input also.stands is)
+map_once to original (Some converted) map Input (Map w) is also = absurd (not_shown to original also.input also.input_stands is)
+map_once to original (Some converted) map Output Input is also = absurd (not_shown to original is.input is.stands also)
+map_once to original (Some converted) map Output Output is also = refl
+map_once to original (Some converted) map Output (Map w) is also = absurd (not_shown to converted also.output also.output_stands is.shown)
+map_once to original (Some converted) map (Map v) Input is also = absurd (not_shown to original is.input is.input_stands also)
+map_once to original (Some converted) map (Map v) Output is also = absurd (not_shown to converted is.output is.output_stands also.shown)
+map_once to original (Some converted) map (Map v) (Map w) is also = ap Map (compare_once original converted map v w is also)
+map_once to original (Some converted) map Shown g is also = absurd is
+map_once to original (Some converted) map Report g is also = absurd is
+map_once to original (Some converted) map Missing g is also = absurd is
+map_once to original (Some converted) map NotShown g is also = absurd is
+map_once to original (Some converted) map _ _ is also = absurd also
 
-refusal_once : (original : Option (List ℕ)) (refusal : Refusal) (f g : Finding) → IsRefusalFinding original refusal f → IsRefusalFinding original refusal g → f ≡ g
-refusal_once original refusal Shown Shown is also = refl
-refusal_once original refusal Shown NotShown is also = absurd (also is)
-refusal_once original refusal NotShown Shown is also = absurd (is also)
-refusal_once original refusal NotShown NotShown is also = refl
-refusal_once original refusal Shown _ is also = absurd also
-refusal_once original refusal NotShown _ is also = absurd also
-refusal_once original refusal _ _ is also = absurd is
+refusal_once : (to : Target) (original : Record) (refusal : Refusal) (f g : Finding) → IsRefusalFinding to original refusal f → IsRefusalFinding to original refusal g → f ≡ g
+refusal_once to original refusal Shown Shown is also = refl
+refusal_once to original refusal Shown NotShown is also = absurd (also is)
+refusal_once to original refusal NotShown Shown is also = absurd (is also)
+refusal_once to original refusal NotShown NotShown is also = refl
+refusal_once to original refusal Shown _ is also = absurd also
+refusal_once to original refusal NotShown _ is also = absurd also
+refusal_once to original refusal _ _ is also = absurd is
 
 -- the parts of what a line says
 same_map : (k : ℕ) (map other : List AtomId) → OkLine k map ≡ OkLine k other → map ≡ other
@@ -85,94 +85,94 @@ not_both : (k : ℕ) (map : List AtomId) (refusal : Refusal) → OkLine k map �
 not_both k map refusal e = cc
 
 -- an original has one finding
-pub finding_once : (k : ℕ) (original : Option (List ℕ)) (line next : Option (Option (List ℕ))) (f g : Finding) → IsFinding k original line next f → IsFinding k original line next g → f ≡ g
-finding_once k original line next f g (inl a) (inl b) = a.1 ∙ sym b.1
-finding_once k original line next f g (inl a) (inr (inl b)) = absurd (a.0 (OkLine k b.map) b.says)
-finding_once k original line next f g (inl a) (inr (inr b)) = absurd (a.0 (RefusedLine k b.refusal) b.says)
-finding_once k original line next f g (inr (inl a)) (inl b) = absurd (b.0 (OkLine k a.map) a.says)
-finding_once k original line next f g (inr (inl a)) (inr (inl b)) =
+pub finding_once : (to : Target) (k : ℕ) (original : Record) (line : Option (Option (List ℕ))) (next : Option Record) (f g : Finding) → IsFinding to k original line next f → IsFinding to k original line next g → f ≡ g
+finding_once to k original line next f g (inl a) (inl b) = a.1 ∙ sym b.1
+finding_once to k original line next f g (inl a) (inr (inl b)) = absurd (a.0 (OkLine k b.map) b.says)
+finding_once to k original line next f g (inl a) (inr (inr b)) = absurd (a.0 (RefusedLine k b.refusal) b.says)
+finding_once to k original line next f g (inr (inl a)) (inl b) = absurd (b.0 (OkLine k a.map) a.says)
+finding_once to k original line next f g (inr (inl a)) (inr (inl b)) =
     let same : b.map ≡ a.map = same_map k b.map a.map (says_once k line (OkLine k b.map) (OkLine k a.map) b.says a.says) in
-    map_once original next a.map f g a.holds (subst (λ (map : List AtomId). IsMapFinding original next map g) same b.holds)
-finding_once k original line next f g (inr (inl a)) (inr (inr b)) = absurd (not_both k a.map b.refusal (says_once k line (OkLine k a.map) (RefusedLine k b.refusal) a.says b.says))
-finding_once k original line next f g (inr (inr a)) (inl b) = absurd (b.0 (RefusedLine k a.refusal) a.says)
-finding_once k original line next f g (inr (inr a)) (inr (inl b)) = absurd (not_both k b.map a.refusal (says_once k line (OkLine k b.map) (RefusedLine k a.refusal) b.says a.says))
-finding_once k original line next f g (inr (inr a)) (inr (inr b)) =
+    map_once to original next a.map f g a.holds (subst (λ (map : List AtomId). IsMapFinding to original next map g) same b.holds)
+finding_once to k original line next f g (inr (inl a)) (inr (inr b)) = absurd (not_both k a.map b.refusal (says_once k line (OkLine k a.map) (RefusedLine k b.refusal) a.says b.says))
+finding_once to k original line next f g (inr (inr a)) (inl b) = absurd (b.0 (RefusedLine k a.refusal) a.says)
+finding_once to k original line next f g (inr (inr a)) (inr (inl b)) = absurd (not_both k b.map a.refusal (says_once k line (OkLine k b.map) (RefusedLine k a.refusal) b.says a.says))
+finding_once to k original line next f g (inr (inr a)) (inr (inr b)) =
     let same : b.refusal ≡ a.refusal = same_refusal k b.refusal a.refusal (says_once k line (RefusedLine k b.refusal) (RefusedLine k a.refusal) b.says a.says) in
-    refusal_once original a.refusal f g a.holds (subst (λ (refusal : Refusal). IsRefusalFinding original refusal g) same b.holds)
+    refusal_once to original a.refusal f g a.holds (subst (λ (refusal : Refusal). IsRefusalFinding to original refusal g) same b.holds)
 
 -- an original leaves the converted records in one way
-pub leaves_once : (k : ℕ) (line : Option (Option (List ℕ))) (converted a b : List (Option (List ℕ))) → Leaves k line converted a → Leaves k line converted b → a ≡ b
+pub leaves_once : (k : ℕ) (line : Option (Option (List ℕ))) (converted a b : List Record) → Leaves k line converted a → Leaves k line converted b → a ≡ b
 leaves_once k line converted a b (inl x) (inl y) = x.1 ∙ sym y.1
 leaves_once k line converted a b (inl x) (inr y) = absurd (y.0 x.0)
 leaves_once k line converted a b (inr x) (inl y) = absurd (x.0 y.0)
 leaves_once k line converted a b (inr x) (inr y) = x.1 ∙ sym y.1
 
-abbrev made : List (Option (List ℕ)) → List (Option (List ℕ)) → Remaining
+abbrev made : List (Option (List ℕ)) → List Record → Remaining
 made lines converted = record { lines = lines; converted = converted }
 
 same_remaining : (a b : Remaining) → a.lines ≡ b.lines → a.converted ≡ b.converted → a ≡ b
 same_remaining a b lines converted = parts a.lines b.lines a.converted b.converted lines converted
   where
-    parts : (k l x y : List (Option (List ℕ))) → k ≡ l → x ≡ y → made k x ≡ made l y
+    parts : (k l : List (Option (List ℕ))) (x y : List Record) → k ≡ l → x ≡ y → made k x ≡ made l y
     parts k l x y e f = cc
 
 -- one original has one finding, and leaves one rest
-pub one_once : (k : ℕ) (original : Option (List ℕ)) (before after after' : Remaining) (f g : Finding) → FindsOne k original before f after → FindsOne k original before g after' → (f ≡ g) × (after ≡ after')
-one_once k original before after after' f g a b =
+pub one_once : (to : Target) (k : ℕ) (original : Record) (before after after' : Remaining) (f g : Finding) → FindsOne to k original before f after → FindsOne to k original before g after' → (f ≡ g) × (after ≡ after')
+one_once to k original before after after' f g a b =
     let lines : after.lines ≡ after'.lines = a.lines_left ∙ sym b.lines_left in
     let converted = leaves_once k (first before.lines) before.converted after.converted after'.converted a.converted_left b.converted_left in
-    (finding_once k original (first before.lines) (first before.converted) f g a.finding_is b.finding_is, same_remaining after after' lines converted)
+    (finding_once to k original (first before.lines) (first before.converted) f g a.finding_is b.finding_is, same_remaining after after' lines converted)
 
 same_list : (f g : Finding) (fs gs : List Finding) → f ≡ g → fs ≡ gs → f ∷ fs ≡ g ∷ gs
 same_list f g fs gs e h = cc
 
-pub finds_once : (k : ℕ) (originals : List (Option (List ℕ))) (before after after' : Remaining) (fs gs : List Finding) → Finds k originals before fs after → Finds k originals before gs after'
+pub finds_once : (to : Target) (k : ℕ) (originals : List Record) (before after after' : Remaining) (fs gs : List Finding) → Finds to k originals before fs after → Finds to k originals before gs after'
     → (fs ≡ gs) × (after ≡ after')
-finds_once k [] before after after' [] [] a b = (refl, a ∙ sym b)
-finds_once k [] before after after' (f ∷ fs) gs a b = absurd a
-finds_once k [] before after after' [] (g ∷ gs) a b = absurd b
-finds_once k (o ∷ os) before after after' [] gs a b = absurd a
-finds_once k (o ∷ os) before after after' (f ∷ fs) [] a b = absurd b
-finds_once k (o ∷ os) before after after' (f ∷ fs) (g ∷ gs) (middle, one, rest) (middle', one', rest') =
-    let same = one_once k o before middle middle' f g one one' in
-    let later = finds_once (k + 1) os middle after after' fs gs rest (subst (λ (r : Remaining). Finds (k + 1) os r gs after') (sym same.1) rest') in
+finds_once to k [] before after after' [] [] a b = (refl, a ∙ sym b)
+finds_once to k [] before after after' (f ∷ fs) gs a b = absurd a
+finds_once to k [] before after after' [] (g ∷ gs) a b = absurd b
+finds_once to k (o ∷ os) before after after' [] gs a b = absurd a
+finds_once to k (o ∷ os) before after after' (f ∷ fs) [] a b = absurd b
+finds_once to k (o ∷ os) before after after' (f ∷ fs) (g ∷ gs) (middle, one, rest) (middle', one', rest') =
+    let same = one_once to k o before middle middle' f g one one' in
+    let later = finds_once to (k + 1) os middle after after' fs gs rest (subst (λ (r : Remaining). Finds to (k + 1) os r gs after') (sym same.1) rest') in
     (same_list f g fs gs same.0 later.0, later.1)
 
 -- Findings from a number on are those from an equal number on.
-from_number : (k l : ℕ) (originals : List (Option (List ℕ))) (before after : Remaining) (fs : List Finding) → k ≡ l → Finds k originals before fs after → Finds l originals before fs after
-from_number k l originals before after fs e finds = subst (λ (n : ℕ). Finds n originals before fs after) e finds
+from_number : (to : Target) (k l : ℕ) (originals : List Record) (before after : Remaining) (fs : List Finding) → k ≡ l → Finds to k originals before fs after → Finds to l originals before fs after
+from_number to k l originals before after fs e finds = subst (λ (n : ℕ). Finds to n originals before fs after) e finds
 
-one_from : (k l : ℕ) (original : Option (List ℕ)) (before after : Remaining) (f : Finding) → k ≡ l → FindsOne k original before f after → FindsOne l original before f after
-one_from k l original before after f e finds = subst (λ (n : ℕ). FindsOne n original before f after) e finds
+one_from : (to : Target) (k l : ℕ) (original : Record) (before after : Remaining) (f : Finding) → k ≡ l → FindsOne to k original before f after → FindsOne to l original before f after
+one_from to k l original before after f e finds = subst (λ (n : ℕ). FindsOne to n original before f after) e finds
 
 -- the findings of the first originals are the front of all
-pub finds_front : (k : ℕ) (done more : List (Option (List ℕ))) (before middle after : Remaining) (fs gs : List Finding) → Finds k done before fs middle → Finds k (done ++ more) before gs after
-    → (rest : List Finding) × (gs ≡ fs ++ rest) × Finds (k + length done) more middle rest after
-finds_front k [] more before middle after [] gs a b = (gs, refl, from_number k (k + 0) more middle after gs (omega arith) (subst (λ (r : Remaining). Finds k more r gs after) (sym a) b))
-finds_front k [] more before middle after (f ∷ fs) gs a b = absurd a
-finds_front k (o ∷ done) more before middle after [] gs a b = absurd a
-finds_front k (o ∷ done) more before middle after (f ∷ fs) [] a b = absurd b
-finds_front k (o ∷ done) more before middle after (f ∷ fs) (g ∷ gs) (next, one, rest) (next', one', rest') =
-    let same = one_once k o before next' next g f one' one in
-    let behind = finds_front (k + 1) done more next middle after fs gs rest (subst (λ (r : Remaining). Finds (k + 1) (done ++ more) r gs after) same.1 rest') in
-    (behind.0, same_list g f gs (fs ++ behind.0) same.0 behind.1, from_number (k + 1 + length done) (k + length (o ∷ done)) more middle after behind.0 (omega arith) behind.2)
+pub finds_front : (to : Target) (k : ℕ) (done more : List Record) (before middle after : Remaining) (fs gs : List Finding) → Finds to k done before fs middle → Finds to k (done ++ more) before gs after
+    → (rest : List Finding) × (gs ≡ fs ++ rest) × Finds to (k + length done) more middle rest after
+finds_front to k [] more before middle after [] gs a b = (gs, refl, from_number to k (k + 0) more middle after gs (omega arith) (subst (λ (r : Remaining). Finds to k more r gs after) (sym a) b))
+finds_front to k [] more before middle after (f ∷ fs) gs a b = absurd a
+finds_front to k (o ∷ done) more before middle after [] gs a b = absurd a
+finds_front to k (o ∷ done) more before middle after (f ∷ fs) [] a b = absurd b
+finds_front to k (o ∷ done) more before middle after (f ∷ fs) (g ∷ gs) (next, one, rest) (next', one', rest') =
+    let same = one_once to k o before next' next g f one' one in
+    let behind = finds_front to (k + 1) done more next middle after fs gs rest (subst (λ (r : Remaining). Finds to (k + 1) (done ++ more) r gs after) same.1 rest') in
+    (behind.0, same_list g f gs (fs ++ behind.0) same.0 behind.1, from_number to (k + 1 + length done) (k + length (o ∷ done)) more middle after behind.0 (omega arith) behind.2)
 
 -- one more original behind the others
-pub finds_push : (k : ℕ) (done : List (Option (List ℕ))) (original : Option (List ℕ)) (before middle after : Remaining) (fs : List Finding) (finding : Finding) → Finds k done before fs middle
-    → FindsOne (k + length done) original middle finding after → Finds k (done ++ original ∷ []) before (fs ++ finding ∷ []) after
-finds_push k [] original before middle after [] finding a one =
-    (after, one_from (k + 0) k original before after finding (omega arith) (subst (λ (r : Remaining). FindsOne (k + 0) original r finding after) a one), refl)
-finds_push k [] original before middle after (f ∷ fs) finding a one = absurd a
-finds_push k (o ∷ done) original before middle after [] finding a one = absurd a
-finds_push k (o ∷ done) original before middle after (f ∷ fs) finding (next, first, rest) one =
-    (next, first, finds_push (k + 1) done original next middle after fs finding rest (one_from (k + length (o ∷ done)) (k + 1 + length done) original middle after finding (omega arith) one))
+pub finds_push : (to : Target) (k : ℕ) (done : List Record) (original : Record) (before middle after : Remaining) (fs : List Finding) (finding : Finding) → Finds to k done before fs middle
+    → FindsOne to (k + length done) original middle finding after → Finds to k (done ++ original ∷ []) before (fs ++ finding ∷ []) after
+finds_push to k [] original before middle after [] finding a one =
+    (after, one_from to (k + 0) k original before after finding (omega arith) (subst (λ (r : Remaining). FindsOne to (k + 0) original r finding after) a one), refl)
+finds_push to k [] original before middle after (f ∷ fs) finding a one = absurd a
+finds_push to k (o ∷ done) original before middle after [] finding a one = absurd a
+finds_push to k (o ∷ done) original before middle after (f ∷ fs) finding (next, first, rest) one =
+    (next, first, finds_push to (k + 1) done original next middle after fs finding rest (one_from to (k + length (o ∷ done)) (k + 1 + length done) original middle after finding (omega arith) one))
 
 -- there is one finding for each original
-pub finds_count : (k : ℕ) (originals : List (Option (List ℕ))) (before after : Remaining) (fs : List Finding) → Finds k originals before fs after → length fs ≡ length originals
-finds_count k [] before after [] finds = refl
-finds_count k [] before after (f ∷ fs) finds = absurd finds
-finds_count k (o ∷ os) before after [] finds = absurd finds
-finds_count k (o ∷ os) before after (f ∷ fs) (middle, one, rest) = ap suc (finds_count (k + 1) os middle after fs rest)
+pub finds_count : (to : Target) (k : ℕ) (originals : List Record) (before after : Remaining) (fs : List Finding) → Finds to k originals before fs after → length fs ≡ length originals
+finds_count to k [] before after [] finds = refl
+finds_count to k [] before after (f ∷ fs) finds = absurd finds
+finds_count to k (o ∷ os) before after [] finds = absurd finds
+finds_count to k (o ∷ os) before after (f ∷ fs) (middle, one, rest) = ap suc (finds_count to (k + 1) os middle after fs rest)
 
 -- the lines of findings behind others
 lines_append : (k : ℕ) (fs gs : List Finding) → verdict_lines k (fs ++ gs) ≡ verdict_lines k fs ++ verdict_lines (k + length fs) gs
@@ -190,23 +190,23 @@ abbrev told : List Finding → Remaining → List ℕ
 told findings after = verdict_lines 1 findings ++ extra_text (is_extra after)
 
 -- the text of a check tells any findings of it
-text_tells : (o c r text : List ℕ) (findings : List Finding) (after : Remaining) → IsCheckText o c r text → Finds 1 (records o) (at_first c r) findings after → text ≡ told findings after
-text_tells o c r text findings after is finds =
-    let same = finds_once 1 (records o) (at_first c r) is.after after is.findings findings is.finds finds in
+text_tells : (formats : Formats) (o c r text : List ℕ) (findings : List Finding) (after : Remaining) → IsCheckText formats o c r text → Finds formats.to 1 (records formats.from o) (at_first formats.to c r) findings after → text ≡ told findings after
+text_tells formats o c r text findings after is finds =
+    let same = finds_once formats.to 1 (records formats.from o) (at_first formats.to c r) is.after after is.findings findings is.finds finds in
     is.written ∙ both is.findings findings is.after after same.0 same.1
   where
     both : (fs gs : List Finding) (a b : Remaining) → fs ≡ gs → a ≡ b → told fs a ≡ told gs b
     both fs gs a b e f = ap (λ (x : List Finding). told x a) e ∙ ap (λ (x : Remaining). told gs x) f
 
 -- a check has one text
-pub text_once : (o c r s t : List ℕ) → IsCheckText o c r s → IsCheckText o c r t → s ≡ t
-text_once o c r s t a b = text_tells o c r s b.findings b.after a b.finds ∙ sym b.written
+pub text_once : (formats : Formats) (o c r s t : List ℕ) → IsCheckText formats o c r s → IsCheckText formats o c r t → s ≡ t
+text_once formats o c r s t a b = text_tells formats o c r s b.findings b.after a b.finds ∙ sym b.written
 
 -- all is true of any findings of a check, where it is of some
-pub all_true_not : (o c r : List ℕ) (findings : List Finding) (after : Remaining) → IsAllTrue o c r → Finds 1 (records o) (at_first c r) findings after
+pub all_true_not : (formats : Formats) (o c r : List ℕ) (findings : List Finding) (after : Remaining) → IsAllTrue formats o c r → Finds formats.to 1 (records formats.from o) (at_first formats.to c r) findings after
     → (list_all is_true findings ≡ true) × (is_extra after ≡ false)
-all_true_not o c r findings after all finds =
-    let same = finds_once 1 (records o) (at_first c r) after all.after findings all.findings finds all.finds in
+all_true_not formats o c r findings after all finds =
+    let same = finds_once formats.to 1 (records formats.from o) (at_first formats.to c r) after all.after findings all.findings finds all.finds in
     (ap (λ (x : List Finding). list_all is_true x) same.0 ∙ all.all_true, ap (λ (x : Remaining). is_extra x) same.1 ∙ all.no_extra)
 
 -- the length of what is told of findings behind others
@@ -218,18 +218,18 @@ told_length fs rest after count same =
     let d = ap (λ (n : ℕ). length (verdict_lines (1 + n) rest)) same in omega arith
 
 -- Less than the lines of the first originals is less than the text of the check.
-pub less_than_front : (o c r text : List ℕ) (done more : List (Option (List ℕ))) (middle : Remaining) (fs : List Finding) (n : ℕ)
-    → Finds 1 done (at_first c r) fs middle → records o ≡ done ++ more → n < length (verdict_lines 1 fs) → IsCheckText o c r text → n < length text
-less_than_front o c r text done more middle fs n finds split less is =
-    let all = subst (λ (os : List (Option (List ℕ))). Finds 1 os (at_first c r) is.findings is.after) split is.finds in
-    let behind = finds_front 1 done more (at_first c r) middle is.after fs is.findings finds all in
-    let front = told_length fs behind.0 is.after (length done) (finds_count 1 done (at_first c r) middle fs finds) in
+pub less_than_front : (formats : Formats) (o c r text : List ℕ) (done more : List Record) (middle : Remaining) (fs : List Finding) (n : ℕ)
+    → Finds formats.to 1 done (at_first formats.to c r) fs middle → records formats.from o ≡ done ++ more → n < length (verdict_lines 1 fs) → IsCheckText formats o c r text → n < length text
+less_than_front formats o c r text done more middle fs n finds split less is =
+    let all = subst (λ (os : List Record). Finds formats.to 1 os (at_first formats.to c r) is.findings is.after) split is.finds in
+    let behind = finds_front formats.to 1 done more (at_first formats.to c r) middle is.after fs is.findings finds all in
+    let front = told_length fs behind.0 is.after (length done) (finds_count formats.to 1 done (at_first formats.to c r) middle fs finds) in
     let whole = ap (λ (x : List ℕ). length x) (is.written ∙ ap (λ (x : List Finding). told x is.after) behind.1) in omega arith
 
 -- So is less than all lines, where there is something extra.
-pub less_than_extra : (o c r text : List ℕ) (fs : List Finding) (after : Remaining) (n : ℕ) → Finds 1 (records o) (at_first c r) fs after → is_extra after ≡ true
-    → n < length (verdict_lines 1 fs) + length extra_line → IsCheckText o c r text → n < length text
-less_than_extra o c r text fs after n finds extra less is =
-    let written = text_tells o c r text fs after is finds ∙ ap (λ (b : Bool). verdict_lines 1 fs ++ extra_text b) extra in
+pub less_than_extra : (formats : Formats) (o c r text : List ℕ) (fs : List Finding) (after : Remaining) (n : ℕ) → Finds formats.to 1 (records formats.from o) (at_first formats.to c r) fs after → is_extra after ≡ true
+    → n < length (verdict_lines 1 fs) + length extra_line → IsCheckText formats o c r text → n < length text
+less_than_extra formats o c r text fs after n finds extra less is =
+    let written = text_tells formats o c r text fs after is finds ∙ ap (λ (b : Bool). verdict_lines 1 fs ++ extra_text b) extra in
     let whole = ap (λ (x : List ℕ). length x) written in
     let joined = length-append (verdict_lines 1 fs) extra_line in omega arith

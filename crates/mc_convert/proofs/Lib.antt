@@ -11,5 +11,7 @@ pub mod OneAnswer
 pub mod ReaderSteps
 pub mod Rests
 pub mod Running
+pub mod Ended
 pub mod SameRefusal
+pub mod Stops
 pub mod Promised

@@ -1,8 +1,8 @@
 -- What was taken of the inputs, and the limit.
 use Rattle.std.proofs.Common.{arith, ◌≡◌, ℕ, zero, suc, ◌+◌, ◌^◌, ◌<◌, ◌≤◌, List, length, Bool, refl, inl, inr}
 use Rattle.std.specs.Prelude.{◌↔◌, Result, Ok, Err}
-use Rattle.mc_io.specs.declared.whole.ReadStop.{ReadStop}
-use Rattle.mc_io.specs.declared.whole.ReadStop.TheVariants.{ReadFault, InputLimit, NoMemory}
+use Rattle.mc_io.specs.declared.read_stop.ReadStop.{ReadStop}
+use Rattle.mc_io.specs.declared.read_stop.ReadStop.TheVariants.{ReadFault, InputLimit, NoMemory}
 use Rattle.mc_io.specs.LineReader.{LineReader, Reading, fresh}
 use Rattle.mc_io.specs.Outside.{Input, Outputs, Takes}
 use Rattle.mc_convert.specs.declared.check_readers.CheckReaders.{CheckReaders}

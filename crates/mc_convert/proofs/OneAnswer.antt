@@ -1,32 +1,35 @@
 -- The report line of an answer is one line.
-use Rattle.std.proofs.Common.{arith, ◌≡◌, ◌∙◌, ◌==◌, ℕ, ◌+◌, ◌<◌, Bool, true, false, cond, List, [], ◌∷◌, ◌++◌, length, Option, Some, None, refl, sym, ap, inl, inr}
-use Rattle.std.proofs.lemmas.List.{length-append}
+use Rattle.std.proofs.Common.{arith, ◌≡◌, ◌∙◌, ◌==◌, ℕ, ◌+◌, ◌<◌, Bool, true, false, cond, List, [], ◌∷◌, ◌++◌, length, refl, sym, ap, inl, inr}
 use Rattle.mc_report.specs.Report.{line_ends, line_end, IsOneLine}
 use Rattle.mc_report.proofs.OneLine.{ends_append, one_end, ok_one_line, refused_one_line}
-use Rattle.smi_mean.specs.Written.{written_order}
-use Rattle.mc_convert.specs.Answers.{Reply, IsRefusedFor, IsAnswer, Answers, reports, IsPartOf}
+use Rattle.mc_convert.specs.declared.formats.Target.{Target}
+use Rattle.mc_convert.specs.Records.{Record}
+use Rattle.mc_convert.specs.Answers.{Reply, written_atoms, IsWritten, IsRefusedFor, IsAnswer, Answers, reports, IsPartOf}
 use Rattle.mc_io.specs.Outside.{Outputs}
 use Rattle.mc_convert.specs.Runs.{HoldsLess}
 
-refused_one : (k : ℕ) (text : Option (List ℕ)) (reply : Reply) → IsRefusedFor k text reply → IsOneLine reply.report
-refused_one k text reply a =
+refused_one : (to : Target) (k : ℕ) (text : Record) (reply : Reply) → IsRefusedFor to k text reply → IsOneLine reply.report
+refused_one to k text reply a =
     let said = refused_one_line k a.refusal in record { text = said.text; ends = a.report ∙ said.ends; one = said.one }
 
-pub one_line : (k : ℕ) (text : Option (List ℕ)) (reply : Reply) → IsAnswer k text reply → IsOneLine reply.report
-one_line k None reply a = refused_one k None reply a
-one_line k (Some bytes) reply (inl a) =
-    let said = ok_one_line k 0 0 0 (written_order a.input) in record { text = said.text; ends = a.report ∙ said.ends; one = said.one }
-one_line k (Some bytes) reply (inr a) = refused_one k (Some bytes) reply a
+-- the report line of a record that is written
+written_one : (to : Target) (k : ℕ) (given : Record) (reply : Reply) → IsWritten to k given reply → IsOneLine reply.report
+written_one to k given reply a =
+    let said = ok_one_line k 0 0 0 (written_atoms to a.input) in record { text = said.text; ends = a.report ∙ said.ends; one = said.one }
+
+pub one_line : (to : Target) (k : ℕ) (given : Record) (reply : Reply) → IsAnswer to k given reply → IsOneLine reply.report
+one_line to k given reply (inl a) = written_one to k given reply a
+one_line to k given reply (inr a) = refused_one to k given reply a
 
 -- as many lines as records
-pub all_lines : (k : ℕ) (texts : List (Option (List ℕ))) (replies : List Reply) → Answers k texts replies → line_ends (reports replies) ≡ length texts
-all_lines k [] [] answers = refl
-all_lines k [] (r ∷ replies) answers = absurd answers
-all_lines k (t ∷ texts) [] answers = absurd answers
-all_lines k (t ∷ texts) (r ∷ replies) (one, more) =
+pub all_lines : (to : Target) (k : ℕ) (texts : List Record) (replies : List Reply) → Answers to k texts replies → line_ends (reports replies) ≡ length texts
+all_lines to k [] [] answers = refl
+all_lines to k [] (r ∷ replies) answers = absurd answers
+all_lines to k (t ∷ texts) [] answers = absurd answers
+all_lines to k (t ∷ texts) (r ∷ replies) (one, more) =
     let joined = ends_append r.report (reports replies) in
-    let first = one_end r.report (one_line k t r one) in
-    let rest = all_lines (k + 1) texts replies more in omega arith
+    let first = one_end r.report (one_line to k t r one) in
+    let rest = all_lines to (k + 1) texts replies more in omega arith
 
 -- what stands behind a byte
 behind : (b : ℕ) (bytes : List ℕ) → line_ends (b ∷ bytes) ≡ 0 → line_ends bytes ≡ 0
@@ -53,12 +56,12 @@ front_clear (p ∷ part) rest (t ∷ text) is less none =
     front false e later = later
 
 -- a part of an answer that isn't all of it has no line end in the report
-pub part_clear : (k : ℕ) (text : Option (List ℕ)) (reply : Reply) (old new : Outputs) → IsAnswer k text reply → (held : HoldsLess reply old new) → line_ends held.part1 ≡ 0
-part_clear k text reply old new answer held = by_part held.part
+pub part_clear : (to : Target) (k : ℕ) (text : Record) (reply : Reply) (old new : Outputs) → IsAnswer to k text reply → (held : HoldsLess reply old new) → line_ends held.part1 ≡ 0
+part_clear to k text reply old new answer held = by_part held.part
   where
     within : length held.part1 < length reply.report → (rest : List ℕ) → reply.report ≡ held.part1 ++ rest → line_ends held.part1 ≡ 0
     within less rest joined =
-        let line = one_line k text reply answer in
+        let line = one_line to k text reply answer in
         let whole = ap (λ (x : List ℕ). length x) line.ends in
         front_clear held.part1 rest line.text (sym line.ends ∙ joined) (omega arith) line.one
 

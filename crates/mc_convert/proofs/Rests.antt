@@ -1,17 +1,17 @@
 -- What is left of an input behind the last original.
-use Rattle.std.proofs.Common.{◌≡◌, ◌∙◌, ℕ, List, Option, Some, None, refl, ap}
-use Rattle.std.specs.Prelude.{Ok, Err, IfSome, is_some, not}
-use Rattle.mc_io.specs.declared.whole.ReadStop.{ReadStop}
-use Rattle.mc_io.specs.declared.whole.ReadStop.TheVariants.{ReadFault, InputLimit, NoMemory}
+use Rattle.std.proofs.Common.{◌≡◌, ℕ, List, Option, Some, None, refl, ap, subst}
+use Rattle.std.specs.Prelude.{Ok, Err, Bool, IfSome, is_some}
+use Rattle.mc_io.specs.declared.read_stop.ReadStop.{ReadStop}
+use Rattle.mc_io.specs.declared.read_stop.ReadStop.TheVariants.{ReadFault, InputLimit, NoMemory}
 use Rattle.mc_io.specs.Lines.{lines_of}
 use Rattle.mc_io.specs.LineReader.{LineReader, ahead, Reading}
 use Rattle.mc_io.specs.Outside.{Input}
-use Rattle.mc_convert.specs.declared.records.NextLine.{NextLine}
-use Rattle.mc_convert.specs.declared.records.NextLine.TheVariants.{Line, TooLong, End}
+use Rattle.mc_convert.specs.declared.formats.Origin.{Origin}
+use Rattle.mc_convert.specs.declared.records.Passed.{Passed}
+use Rattle.mc_convert.specs.declared.records.Passed.TheVariants.{Line, TooLong}
 use Rattle.mc_convert.specs.Checks.{first}
-use Rattle.mc_convert.specs.LeftOver.{is_end}
 use Rattle.mc_convert.specs.CheckSteps.{TakesFirst}
-use Rattle.mc_convert.specs.Findings.{met}
+use Rattle.mc_convert.specs.Findings.{line_met, record_met}
 use Rattle.mc_convert.specs.Readers.{HasEnded, GivesLine, GivesRecord}
 use Rattle.mc_convert.specs.Records.{records}
 use Rattle.mc_convert.proofs.CheckLifts.{record_first, line_taken}
@@ -23,20 +23,25 @@ stopped_later limit ReadFault a b c x y z p (within, rose, ended) = (within, ros
 stopped_later limit InputLimit a b c x y z p h = h
 stopped_later limit NoMemory a b c x y z p h = h
 
-some_met : (next : NextLine) (text : List ℕ) → not (is_end next) ≡ is_some (met next text)
-some_met Line text = refl
-some_met TooLong text = refl
-some_met End text = refl
+some_first : {A : Type 0} (cut : List ℕ → List A) (given : Option A) (all rest : Option (List ℕ)) → TakesFirst cut all rest given → IfSome all (λ bytes. is_some given ≡ is_some (first (cut bytes)))
+some_first cut given None rest h = tt
+some_first cut given (Some all) None h = absurd h
+some_first {A} cut given (Some all) (Some rest) h = ap (λ (x : Option A). is_some x) h.0
 
-some_first : (cut : List ℕ → List (Option (List ℕ))) (next : NextLine) (all rest : Option (List ℕ)) (text : List ℕ) → TakesFirst cut all rest (met next text)
-    → IfSome all (λ bytes. not (is_end next) ≡ is_some (first (cut bytes)))
-some_first cut next None rest text h = tt
-some_first cut next (Some all) None text h = absurd h
-some_first cut next (Some all) (Some rest) text h = some_met next text ∙ ap (λ (x : Option (Option (List ℕ))). is_some x) h.0
+some_record_met : (next : Option Passed) (text : List ℕ) → is_some (record_met next text) ≡ is_some next
+some_record_met None text = refl
+some_record_met (Some passed) text = refl
 
-pub some_record : (next : NextLine) (all rest : Option (List ℕ)) (text : List ℕ) → GivesRecord (Ok next) all rest text → IfSome all (λ bytes. not (is_end next) ≡ is_some (first (records bytes)))
-some_record next all rest text gives = some_first records next all rest text (record_first next all rest text gives)
+some_line_met : (next : Option Passed) (text : List ℕ) → is_some (line_met next text) ≡ is_some next
+some_line_met None text = refl
+some_line_met (Some Line) text = refl
+some_line_met (Some TooLong) text = refl
 
-pub some_line : (limit : ℕ) (next : NextLine) (all left : Option (List ℕ)) (reader : LineReader) (before after : Input) → GivesLine (Ok next) all (ahead reader left) reader.text
-    → HasEnded limit (Ok next) reader before after → IfSome all (λ bytes. not (is_end next) ≡ is_some (first (lines_of bytes)))
-some_line limit next all left reader before after gives ended = some_first lines_of next all (ahead reader left) reader.text (line_taken limit next all left reader before after gives ended)
+pub some_record : (from : Origin) (next : Option Passed) (all rest : Option (List ℕ)) (text : List ℕ) → GivesRecord from (Ok next) all rest text → IfSome all (λ bytes. is_some next ≡ is_some (first (records from bytes)))
+some_record from next all rest text gives =
+    subst (λ (b : Bool). IfSome all (λ bytes. b ≡ is_some (first (records from bytes)))) (some_record_met next text) (some_first (records from) (record_met next text) all rest (record_first from next all rest text gives))
+
+pub some_line : (limit : ℕ) (next : Option Passed) (all left : Option (List ℕ)) (reader : LineReader) (before after : Input) → GivesLine (Ok next) all (ahead reader left) reader.text
+    → HasEnded limit (Ok next) reader before after → IfSome all (λ bytes. is_some next ≡ is_some (first (lines_of bytes)))
+some_line limit next all left reader before after gives ended =
+    subst (λ (b : Bool). IfSome all (λ bytes. b ≡ is_some (first (lines_of bytes)))) (some_line_met next reader.text) (some_first lines_of (line_met next reader.text) all (ahead reader left) (line_taken limit next all left reader before after gives ended))

@@ -1,5 +1,5 @@
 -- The refusals that a record shows: of kind and place there is one.
-use Rattle.std.proofs.Common.{arith, ◌≡◌, ℕ, ◌<◌, ◌≤◌, Bool, false, List, Option, ◌∙◌, sym, subst, inl, inr}
+use Rattle.std.proofs.Common.{arith, ◌≡◌, ℕ, ◌<◌, ◌≤◌, Bool, false, ◌∙◌, sym, subst, inl, inr}
 use Rattle.std.specs.Prelude.{◌↔◌, IsTrue}
 use Rattle.std.proofs.lemmas.Bool.{cases_lt, false≢true}
 use Rattle.mc_base.specs.declared.kind.Kind.{Kind}
@@ -7,20 +7,22 @@ use Rattle.mc_base.specs.declared.refusal.Refusal.{Refusal}
 use Rattle.mc_base.specs.Kinds.{number}
 use Rattle.mc_base.specs.Shown.{HasReason}
 use Rattle.mc_base.proofs.AllKinds.{same_number}
+use Rattle.mc_convert.specs.declared.formats.Target.{Target}
+use Rattle.mc_convert.specs.Records.{Record}
 use Rattle.mc_convert.specs.Answers.{StandsIn, IsBarrierOf, Shows}
 
 -- a refusal whose kind and place are shown, and whose reason is right
-shows_too : (given : Option (List ℕ)) (shown said : Refusal) → Shows given shown → shown.kind ≡ said.kind → shown.place ≡ said.place
-    → HasReason (IsBarrierOf given) said.kind said.barrier said.odd → Shows given said
-shows_too given shown said shows kind place reason = record {
-  stands = subst (λ (k : Kind). StandsIn given k said.place) kind (subst (λ (p : ℕ). StandsIn given shown.kind p) place shows.stands);
-  least = λ p stands. subst (λ (l : ℕ). l ≤ p) place (shows.least p (subst (λ (k : Kind). StandsIn given k p) (sym kind) stands));
+shows_too : (to : Target) (given : Record) (shown said : Refusal) → Shows to given shown → shown.kind ≡ said.kind → shown.place ≡ said.place
+    → HasReason (IsBarrierOf to given) said.kind said.barrier said.odd → Shows to given said
+shows_too to given shown said shows kind place reason = record {
+  stands = subst (λ (k : Kind). StandsIn to given k said.place) kind (subst (λ (p : ℕ). StandsIn to given shown.kind p) place shows.stands);
+  least = λ p stands. subst (λ (l : ℕ). l ≤ p) place (shows.least p (subst (λ (k : Kind). StandsIn to given k p) (sym kind) stands));
   first = λ k p less stands. shows.first k p (subst (λ (l : Kind). number k < number l) (sym kind) less) stands;
   reason = reason;
 }
 
-pub same_shown : (given : Option (List ℕ)) (shown said : Refusal) → Shows given shown → Shows given said → (shown.kind ≡ said.kind) × (shown.place ≡ said.place)
-same_shown given shown said f g =
+pub same_shown : (to : Target) (given : Record) (shown said : Refusal) → Shows to given shown → Shows to given said → (shown.kind ≡ said.kind) × (shown.place ≡ said.place)
+same_shown to given shown said f g =
     let kind : shown.kind ≡ said.kind = elim (cases_lt (number shown.kind) (number said.kind)) [
       | inl less ↦ absurd (g.first shown.kind shown.place less f.stands)
       | inr more ↦ elim (cases_lt (number said.kind) (number shown.kind)) [
@@ -28,13 +30,13 @@ same_shown given shown said f g =
         | inr same ↦ same_number shown.kind said.kind (omega arith)
       ]
     ] in
-    let low = f.least said.place (subst (λ (k : Kind). StandsIn given k said.place) (sym kind) g.stands) in
-    let high = g.least shown.place (subst (λ (k : Kind). StandsIn given k shown.place) kind f.stands) in let place : shown.place ≡ said.place = omega arith in (kind, place)
+    let low = f.least said.place (subst (λ (k : Kind). StandsIn to given k said.place) (sym kind) g.stands) in
+    let high = g.least shown.place (subst (λ (k : Kind). StandsIn to given k shown.place) kind f.stands) in let place : shown.place ≡ said.place = omega arith in (kind, place)
 
-pub shown_exactly : (given : Option (List ℕ)) (shown said : Refusal) (b : Bool) → Shows given shown → (shown.kind ≡ said.kind) × (shown.place ≡ said.place)
-    → (IsTrue b ↔ HasReason (IsBarrierOf given) said.kind said.barrier said.odd) → IsTrue b ↔ Shows given said
-shown_exactly given shown said b shows same reason =
-    (λ on. shows_too given shown said shows same.0 same.1 (reason.0 on), λ too. reason.1 too.reason)
+pub shown_exactly : (to : Target) (given : Record) (shown said : Refusal) (b : Bool) → Shows to given shown → (shown.kind ≡ said.kind) × (shown.place ≡ said.place)
+    → (IsTrue b ↔ HasReason (IsBarrierOf to given) said.kind said.barrier said.odd) → IsTrue b ↔ Shows to given said
+shown_exactly to given shown said b shows same reason =
+    (λ on. shows_too to given shown said shows same.0 same.1 (reason.0 on), λ too. reason.1 too.reason)
 
-pub not_shown : (given : Option (List ℕ)) (shown said : Refusal) (b : Bool) → Shows given shown → (IsTrue b ↔ ((shown.kind ≡ said.kind) × (shown.place ≡ said.place))) → b ≡ false → Shows given said → ⊥
-not_shown given shown said b shows same off too = false≢true (sym off ∙ same.1 (same_shown given shown said shows too))
+pub not_shown : (to : Target) (given : Record) (shown said : Refusal) (b : Bool) → Shows to given shown → (IsTrue b ↔ ((shown.kind ≡ said.kind) × (shown.place ≡ said.place))) → b ≡ false → Shows to given said → ⊥
+not_shown to given shown said b shows same off too = false≢true (sym off ∙ same.1 (same_shown to given shown said shows too))

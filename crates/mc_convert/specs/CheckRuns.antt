@@ -10,7 +10,9 @@ use Rattle.mc_convert.specs.declared.status.Halt.{Halt}
 use Rattle.mc_convert.specs.declared.status.Halt.TheVariants.{ReadFault, InputLimit, WriteFault, NoMemory}
 use Rattle.mc_convert.specs.Findings.{is_true, verdict_line}
 use Rattle.mc_convert.specs.Checks.{Finds, at_first, extra_line, extra_text, is_extra, verdict_lines, IsCheckText, IsCheckPart, IsAllTrue}
-use Rattle.mc_convert.specs.Records.{records}
+use Rattle.mc_convert.specs.declared.formats.Formats.{Formats}
+use Rattle.mc_convert.specs.declared.formats.Target.{Target}
+use Rattle.mc_convert.specs.Records.{Record, records}
 use Rattle.mc_convert.specs.CheckSteps.{AreWithin, IsPast, ReadFailed, NotEnded, FindsNext}
 
 -- where the three inputs are known
@@ -24,22 +26,22 @@ pub record GrownBy (old new : Option (List ℕ)) (P : List ℕ → Type 0) : Typ
   pub holds : P more
 
 -- the whole text of a check is written
-abbrev pub ChecksAll : Option (List ℕ) → Option (List ℕ) → Option (List ℕ) → Option (List ℕ) → Option (List ℕ) → Type 0
-ChecksAll originals converted report old new = IfKnown originals converted report (λ o c r. GrownBy old new (IsCheckText o c r))
+abbrev pub ChecksAll : Formats → Option (List ℕ) → Option (List ℕ) → Option (List ℕ) → Option (List ℕ) → Option (List ℕ) → Type 0
+ChecksAll formats originals converted report old new = IfKnown originals converted report (λ o c r. GrownBy old new (IsCheckText formats o c r))
 
 -- a front of the text is written
-abbrev pub ChecksSome : Option (List ℕ) → Option (List ℕ) → Option (List ℕ) → Option (List ℕ) → Option (List ℕ) → Type 0
-ChecksSome originals converted report old new = IfKnown originals converted report (λ o c r. GrownBy old new (IsCheckPart o c r))
+abbrev pub ChecksSome : Formats → Option (List ℕ) → Option (List ℕ) → Option (List ℕ) → Option (List ℕ) → Option (List ℕ) → Type 0
+ChecksSome formats originals converted report old new = IfKnown originals converted report (λ o c r. GrownBy old new (IsCheckPart formats o c r))
 
 -- less than the whole text
-abbrev pub IsLessThanText : List ℕ → List ℕ → List ℕ → List ℕ → Type 0
-IsLessThanText originals converted report more = (text : List ℕ) → IsCheckText originals converted report text → length more < length text
+abbrev pub IsLessThanText : Formats → List ℕ → List ℕ → List ℕ → List ℕ → Type 0
+IsLessThanText formats originals converted report more = (text : List ℕ) → IsCheckText formats originals converted report text → length more < length text
 
-abbrev pub ChecksLess : Option (List ℕ) → Option (List ℕ) → Option (List ℕ) → Option (List ℕ) → Option (List ℕ) → Type 0
-ChecksLess originals converted report old new = IfKnown originals converted report (λ o c r. GrownBy old new (IsLessThanText o c r))
+abbrev pub ChecksLess : Formats → Option (List ℕ) → Option (List ℕ) → Option (List ℕ) → Option (List ℕ) → Option (List ℕ) → Type 0
+ChecksLess formats originals converted report old new = IfKnown originals converted report (λ o c r. GrownBy old new (IsLessThanText formats o c r))
 
 -- the inputs and what output 0 holds are known, and it has grown by the whole text
-pub record AllIsChecked (originals converted report old new : Option (List ℕ)) : Type 0 where
+pub record AllIsChecked (formats : Formats) (originals converted report old new : Option (List ℕ)) : Type 0 where
   pub o : List ℕ
   pub c : List ℕ
   pub r : List ℕ
@@ -50,28 +52,28 @@ pub record AllIsChecked (originals converted report old new : Option (List ℕ))
   pub report_is : report ≡ Some r
   pub old_is : old ≡ Some before
   pub new_is : new ≡ Some (before ++ text)
-  pub whole : IsCheckText o c r text
+  pub whole : IsCheckText formats o c r text
 
 -- the same of the inputs of a check and of output 0
 
 abbrev pub IfAllKnown : (ℕ → Input) → (List ℕ → List ℕ → List ℕ → Type 0) → Type 0
 IfAllKnown inputs P = IfKnown (inputs 0).left (inputs 1).left (inputs 2).left P
 
-abbrev pub WritesText : (ℕ → Input) → Outputs → Outputs → Type 0
-WritesText inputs old new = ChecksAll (inputs 0).left (inputs 1).left (inputs 2).left (old.held 0) (new.held 0)
+abbrev pub WritesText : Formats → (ℕ → Input) → Outputs → Outputs → Type 0
+WritesText formats inputs old new = ChecksAll formats (inputs 0).left (inputs 1).left (inputs 2).left (old.held 0) (new.held 0)
 
-abbrev pub WritesFront : (ℕ → Input) → Outputs → Outputs → Type 0
-WritesFront inputs old new = ChecksSome (inputs 0).left (inputs 1).left (inputs 2).left (old.held 0) (new.held 0)
+abbrev pub WritesFront : Formats → (ℕ → Input) → Outputs → Outputs → Type 0
+WritesFront formats inputs old new = ChecksSome formats (inputs 0).left (inputs 1).left (inputs 2).left (old.held 0) (new.held 0)
 
-abbrev pub HoldsText : (ℕ → Input) → Outputs → Outputs → Type 0
-HoldsText inputs old new = AllIsChecked (inputs 0).left (inputs 1).left (inputs 2).left (old.held 0) (new.held 0)
+abbrev pub HoldsText : Formats → (ℕ → Input) → Outputs → Outputs → Type 0
+HoldsText formats inputs old new = AllIsChecked formats (inputs 0).left (inputs 1).left (inputs 2).left (old.held 0) (new.held 0)
 
 -- ---- one original
 
 -- it was found so, and its line stands behind those that are still to be written
-pub record OneChecked (k : ℕ) (original : Option (List ℕ)) (converted converted_rest report report_rest : Option (List ℕ)) (lines more : List ℕ) (all_true : Bool) : Type 0 where
+pub record OneChecked (to : Target) (k : ℕ) (original : Record) (converted converted_rest report report_rest : Option (List ℕ)) (lines more : List ℕ) (all_true : Bool) : Type 0 where
   pub finding : Finding
-  pub finds : FindsNext k original converted converted_rest report report_rest finding
+  pub finds : FindsNext to k original converted converted_rest report report_rest finding
   pub true_is : all_true ≡ is_true finding
   pub added : more ≡ lines ++ verdict_line k finding
 
@@ -95,59 +97,59 @@ pub record Written (old new : Outputs) : Type 0 where
 
 -- ---- the whole
 
-pub record CheckedAll (all_true : Bool) (before after : ℕ → Input) (old new : Outputs) : Type 0 where
+pub record CheckedAll (formats : Formats) (all_true : Bool) (before after : ℕ → Input) (old new : Outputs) : Type 0 where
   pub ended : (i : ℕ) → i < 3 → IsTrue (after i).ended
-  pub all : ChecksAll (before 0).left (before 1).left (before 2).left (old.held 0) (new.held 0)
-  pub true_is : IfKnown (before 0).left (before 1).left (before 2).left (λ o c r. IsTrue all_true ↔ IsAllTrue o c r)
+  pub all : ChecksAll formats (before 0).left (before 1).left (before 2).left (old.held 0) (new.held 0)
+  pub true_is : IfKnown (before 0).left (before 1).left (before 2).left (λ o c r. IsTrue all_true ↔ IsAllTrue formats o c r)
 
 -- the cause of a stop
-abbrev pub CheckStopped : Halt → (ℕ → Input) → (ℕ → Input) → Outputs → Outputs → Type 0
-CheckStopped ReadFault before after old new = ReadFailed before after
-CheckStopped InputLimit before after old new = NotEnded after
-CheckStopped NoMemory before after old new = ⊤
-CheckStopped WriteFault before after old new = Rose old.faults new.faults × ChecksLess (before 0).left (before 1).left (before 2).left (old.held 0) (new.held 0)
+abbrev pub CheckStopped : Formats → Halt → (ℕ → Input) → (ℕ → Input) → Outputs → Outputs → Type 0
+CheckStopped formats ReadFault before after old new = ReadFailed before after
+CheckStopped formats InputLimit before after old new = NotEnded after
+CheckStopped formats NoMemory before after old new = ⊤
+CheckStopped formats WriteFault before after old new = Rose old.faults new.faults × ChecksLess formats (before 0).left (before 1).left (before 2).left (old.held 0) (new.held 0)
 
 -- How a check ended.
-abbrev pub CheckRan : Result Bool Halt → (ℕ → Input) → (ℕ → Input) → Outputs → Outputs → Type 0
-CheckRan (Ok all_true) before after old new = CheckedAll all_true before after old new
-CheckRan (Err halt) before after old new = ChecksSome (before 0).left (before 1).left (before 2).left (old.held 0) (new.held 0) × CheckStopped halt before after old new
+abbrev pub CheckRan : Formats → Result Bool Halt → (ℕ → Input) → (ℕ → Input) → Outputs → Outputs → Type 0
+CheckRan formats (Ok all_true) before after old new = CheckedAll formats all_true before after old new
+CheckRan formats (Err halt) before after old new = ChecksSome formats (before 0).left (before 1).left (before 2).left (old.held 0) (new.held 0) × CheckStopped formats halt before after old new
 
 -- ---- all originals
 
 -- all originals are checked, and their lines are written
-pub record AllFound (all_true : Bool) (o c r : List ℕ) (converted report : Option (List ℕ)) (old new : Outputs) : Type 0 where
+pub record AllFound (formats : Formats) (all_true : Bool) (o c r : List ℕ) (converted report : Option (List ℕ)) (old new : Outputs) : Type 0 where
   pub c_left : List ℕ
   pub r_left : List ℕ
   pub converted_are : converted ≡ Some c_left
   pub report_is : report ≡ Some r_left
   pub findings : List Finding
-  pub finds : Finds 1 (records o) (at_first c r) findings (at_first c_left r_left)
+  pub finds : Finds formats.to 1 (records formats.from o) (at_first formats.to c r) findings (at_first formats.to c_left r_left)
   pub true_is : list_all is_true findings ≡ all_true
   pub written : Appends (old.held 0) (new.held 0) (verdict_lines 1 findings)
 
-abbrev pub FoundAll : Bool → Option (List ℕ) → Option (List ℕ) → Option (List ℕ) → Option (List ℕ) → Option (List ℕ) → Outputs → Outputs → Type 0
-FoundAll all_true o c r converted report old new = IfKnown o c r (λ x y z. AllFound all_true x y z converted report old new)
+abbrev pub FoundAll : Formats → Bool → Option (List ℕ) → Option (List ℕ) → Option (List ℕ) → Option (List ℕ) → Option (List ℕ) → Outputs → Outputs → Type 0
+FoundAll formats all_true o c r converted report old new = IfKnown o c r (λ x y z. AllFound formats all_true x y z converted report old new)
 
 -- a failed write leaves less than the whole text
-abbrev pub LessAt : Halt → Option (List ℕ) → Option (List ℕ) → Option (List ℕ) → Outputs → Outputs → Type 0
-LessAt WriteFault o c r old new = ChecksLess o c r (old.held 0) (new.held 0)
-LessAt halt o c r old new = ⊤
+abbrev pub LessAt : Formats → Halt → Option (List ℕ) → Option (List ℕ) → Option (List ℕ) → Outputs → Outputs → Type 0
+LessAt formats WriteFault o c r old new = ChecksLess formats o c r (old.held 0) (new.held 0)
+LessAt formats halt o c r old new = ⊤
 
 -- ---- what is left behind the originals
 
 -- it is said whether something is extra, and its line is written
-pub record RestOf (converted report : List ℕ) (old new : Outputs) (extra : Bool) : Type 0 where
-  pub extra_is : extra ≡ is_extra (at_first converted report)
+pub record RestOf (to : Target) (converted report : List ℕ) (old new : Outputs) (extra : Bool) : Type 0 where
+  pub extra_is : extra ≡ is_extra (at_first to converted report)
   pub written : Appends (old.held 0) (new.held 0) (extra_text extra)
 
-abbrev pub RestChecked : Option (List ℕ) → Option (List ℕ) → Outputs → Outputs → Bool → Type 0
-RestChecked converted report old new extra = IfSome converted (λ c. IfSome report (λ r. RestOf c r old new extra))
+abbrev pub RestChecked : Target → Option (List ℕ) → Option (List ℕ) → Outputs → Outputs → Bool → Type 0
+RestChecked to converted report old new extra = IfSome converted (λ c. IfSome report (λ r. RestOf to c r old new extra))
 
 -- a part of the line is written, and not all
-pub record RestCut (converted report : List ℕ) (old new : Outputs) : Type 0 where
-  pub extra : is_extra (at_first converted report) ≡ true
+pub record RestCut (to : Target) (converted report : List ℕ) (old new : Outputs) : Type 0 where
+  pub extra : is_extra (at_first to converted report) ≡ true
   pub written : AppendsPart (old.held 0) (new.held 0) extra_line
 
-abbrev pub RestStopped : Halt → Option (List ℕ) → Option (List ℕ) → Outputs → Outputs → Type 0
-RestStopped WriteFault converted report old new = IfSome converted (λ c. IfSome report (λ r. RestCut c r old new))
-RestStopped halt converted report old new = new.held 0 ≡ old.held 0
+abbrev pub RestStopped : Target → Halt → Option (List ℕ) → Option (List ℕ) → Outputs → Outputs → Type 0
+RestStopped to WriteFault converted report old new = IfSome converted (λ c. IfSome report (λ r. RestCut to c r old new))
+RestStopped to halt converted report old new = new.held 0 ≡ old.held 0

@@ -7,11 +7,14 @@ use Rattle.mc_io.specs.LineReader.{LineReader, MayGoOn, Reading, fresh}
 use Rattle.mc_io.specs.Outside.{Input}
 use Rattle.mc_convert.specs.declared.check_readers.CheckReaders.{CheckReaders}
 use Rattle.mc_convert.specs.declared.finding.Finding.{Finding}
+use Rattle.mc_convert.specs.declared.formats.Origin.{Origin}
+use Rattle.mc_convert.specs.declared.formats.Target.{Target}
 use Rattle.mc_convert.specs.declared.record_read.RecordRead.{RecordRead}
 use Rattle.mc_convert.specs.declared.status.Halt.{Halt}
 use Rattle.mc_convert.specs.declared.status.Halt.TheVariants.{ReadFault, InputLimit, WriteFault, NoMemory}
 use Rattle.mc_convert.specs.Findings.{AreReadAs, FindsSaid}
 use Rattle.mc_convert.specs.Checks.{first, at_first, FindsOne}
+use Rattle.mc_convert.specs.Records.{Record, records}
 
 -- a reader may be asked for the next line of this input
 pub record MayReadOn (input limit : ℕ) (reader : LineReader) : Type 0 where
@@ -66,15 +69,15 @@ ReadHalts limit NoMemory new before after = AreWithin limit new
 ReadHalts limit WriteFault new before after = ⊥
 
 -- the first of what known bytes are cut into is taken, where there is one
-abbrev pub TakesFirst : (List ℕ → List (Option (List ℕ))) → Option (List ℕ) → Option (List ℕ) → Option (Option (List ℕ)) → Type 0
+abbrev pub TakesFirst : {A : Type 0} → (List ℕ → List A) → Option (List ℕ) → Option (List ℕ) → Option A → Type 0
 TakesFirst cut None rest given = ⊤
 TakesFirst cut (Some all) None given = ⊥
 TakesFirst cut (Some all) (Some rest) given = (given ≡ first (cut all)) × (cut rest ≡ drop 1 (cut all))
 
 -- the next record is taken and read
-pub record ReadsNext (cut : List ℕ → List (Option (List ℕ))) (all rest : Option (List ℕ)) (read : Option RecordRead) : Type 0 where
-  pub given : Option (Option (List ℕ))
-  pub takes : TakesFirst cut all rest given
+pub record ReadsNext (from : Origin) (all rest : Option (List ℕ)) (read : Option RecordRead) : Type 0 where
+  pub given : Option Record
+  pub takes : TakesFirst (records from) all rest given
   pub reads : AreReadAs given read
 
 -- the next line of the report is taken, and this is what it says of record k
@@ -84,14 +87,14 @@ pub record SaidNext (k : ℕ) (all rest : Option (List ℕ)) (said : Option Repo
   pub says : FindsSaid k line said
 
 -- original k is found so, and this is left of the converted records and of the report
-pub record OneFound (k : ℕ) (original : Option (List ℕ)) (converted report : List ℕ) (converted_rest report_rest : Option (List ℕ)) (finding : Finding) : Type 0 where
+pub record OneFound (to : Target) (k : ℕ) (original : Record) (converted report : List ℕ) (converted_rest report_rest : Option (List ℕ)) (finding : Finding) : Type 0 where
   pub converted_left : List ℕ
   pub report_left : List ℕ
   pub converted_is : converted_rest ≡ Some converted_left
   pub report_is : report_rest ≡ Some report_left
-  pub one : FindsOne k original (at_first converted report) finding (at_first converted_left report_left)
+  pub one : FindsOne to k original (at_first to converted report) finding (at_first to converted_left report_left)
 
 -- the same where the inputs are known
-abbrev pub FindsNext : ℕ → Option (List ℕ) → Option (List ℕ) → Option (List ℕ) → Option (List ℕ) → Option (List ℕ) → Finding → Type 0
-FindsNext k original converted converted_rest report report_rest finding =
-    IfSome converted (λ c. IfSome report (λ r. OneFound k original c r converted_rest report_rest finding))
+abbrev pub FindsNext : Target → ℕ → Record → Option (List ℕ) → Option (List ℕ) → Option (List ℕ) → Option (List ℕ) → Finding → Type 0
+FindsNext to k original converted converted_rest report report_rest finding =
+    IfSome converted (λ c. IfSome report (λ r. OneFound to k original c r converted_rest report_rest finding))

@@ -3,7 +3,10 @@ use Rattle.std.specs.Prelude.{◌≡◌, ◌⊎◌, ⊤, ℕ, ◌+◌, List, [],
 use Rattle.std.specs.List.{list_all}
 use Rattle.mc_io.specs.Lines.{lines_of}
 use Rattle.mc_convert.specs.declared.finding.Finding.{Finding}
-use Rattle.mc_convert.specs.Records.{records}
+use Rattle.mc_convert.specs.declared.formats.Formats.{Formats}
+use Rattle.mc_convert.specs.declared.formats.Target.{Target}
+use Rattle.mc_convert.specs.Formats.{read_back}
+use Rattle.mc_convert.specs.Records.{Record, records}
 use Rattle.mc_convert.specs.Answers.{IsPrefix}
 use Rattle.mc_convert.specs.Findings.{SaysWritten, IsFinding, is_true, verdict_line}
 
@@ -14,24 +17,24 @@ first (x ∷ xs) = Some x
 -- what is still to be taken: lines of the report, and converted records
 pub record Remaining : Type 0 where
   pub lines : List (Option (List ℕ))
-  pub converted : List (Option (List ℕ))
+  pub converted : List Record
 
 -- Original k takes the next converted record where its line says that it is written, whatever is found of it.
-abbrev pub Leaves : ℕ → Option (Option (List ℕ)) → List (Option (List ℕ)) → List (Option (List ℕ)) → Type 0
+abbrev pub Leaves : ℕ → Option (Option (List ℕ)) → List Record → List Record → Type 0
 Leaves k line converted rest = (SaysWritten k line (λ map. ⊤) × (rest ≡ drop 1 converted)) ⊎ ((SaysWritten k line (λ map. ⊤) → ⊥) × (rest ≡ converted))
 
 -- one original with its line of the report
-pub record FindsOne (k : ℕ) (original : Option (List ℕ)) (before : Remaining) (finding : Finding) (after : Remaining) : Type 0 where
-  pub finding_is : IsFinding k original (first before.lines) (first before.converted) finding
+pub record FindsOne (to : Target) (k : ℕ) (original : Record) (before : Remaining) (finding : Finding) (after : Remaining) : Type 0 where
+  pub finding_is : IsFinding to k original (first before.lines) (first before.converted) finding
   pub lines_left : after.lines ≡ drop 1 before.lines
   pub converted_left : Leaves k (first before.lines) before.converted after.converted
 
 -- the findings of the originals from number k on, and what they leave
-abbrev pub Finds : ℕ → List (Option (List ℕ)) → Remaining → List Finding → Remaining → Type 0
-Finds k [] before [] after = after ≡ before
-Finds k [] before (finding ∷ findings) after = ⊥
-Finds k (original ∷ originals) before [] after = ⊥
-Finds k (original ∷ originals) before (finding ∷ findings) after = (middle : Remaining) × FindsOne k original before finding middle × Finds (k + 1) originals middle findings after
+abbrev pub Finds : Target → ℕ → List Record → Remaining → List Finding → Remaining → Type 0
+Finds to k [] before [] after = after ≡ before
+Finds to k [] before (finding ∷ findings) after = ⊥
+Finds to k (original ∷ originals) before [] after = ⊥
+Finds to k (original ∷ originals) before (finding ∷ findings) after = (middle : Remaining) × FindsOne to k original before finding middle × Finds to (k + 1) originals middle findings after
 
 -- the report or the converted records go on behind the last original; an empty line of the report counts
 abbrev pub is_extra : Remaining → Bool
@@ -48,40 +51,41 @@ abbrev pub extra_text : Bool → List ℕ
 extra_text extra = if extra then extra_line else []
 
 -- all that is before a check
-abbrev pub at_first : List ℕ → List ℕ → Remaining
-at_first converted report = record { lines = lines_of report; converted = records converted }
+abbrev pub at_first : Target → List ℕ → List ℕ → Remaining
+at_first to converted report = record { lines = lines_of report; converted = records (read_back to) converted }
 
 -- the text of a check
-pub record IsCheckText (originals converted report text : List ℕ) : Type 0 where
+pub record IsCheckText (formats : Formats) (originals converted report text : List ℕ) : Type 0 where
   pub findings : List Finding
   pub after : Remaining
-  pub finds : Finds 1 (records originals) (at_first converted report) findings after
+  pub finds : Finds formats.to 1 (records formats.from originals) (at_first formats.to converted report) findings after
   pub written : text ≡ verdict_lines 1 findings ++ extra_text (is_extra after)
 
 -- a check has one text
-abbrev pub OneText : List ℕ → List ℕ → List ℕ → Type 0
-OneText originals converted report = (text other : List ℕ) → IsCheckText originals converted report text → IsCheckText originals converted report other → text ≡ other
+abbrev pub OneText : Formats → List ℕ → List ℕ → List ℕ → Type 0
+OneText formats originals converted report =
+    (text other : List ℕ) → IsCheckText formats originals converted report text → IsCheckText formats originals converted report other → text ≡ other
 
 -- each verdict line is 'true', and nothing is extra
-pub record IsAllTrue (originals converted report : List ℕ) : Type 0 where
+pub record IsAllTrue (formats : Formats) (originals converted report : List ℕ) : Type 0 where
   pub findings : List Finding
   pub after : Remaining
-  pub finds : Finds 1 (records originals) (at_first converted report) findings after
+  pub finds : Finds formats.to 1 (records formats.from originals) (at_first formats.to converted report) findings after
   pub all_true : list_all is_true findings ≡ true
   pub no_extra : is_extra after ≡ false
 
 -- a front of the text of a check: as much as the first originals tell, or all of them with what is extra
-pub record IsPartOfFirst (originals converted report text : List ℕ) : Type 0 where
+pub record IsPartOfFirst (formats : Formats) (originals converted report text : List ℕ) : Type 0 where
   pub count : ℕ
   pub findings : List Finding
   pub after : Remaining
-  pub finds : Finds 1 (take count (records originals)) (at_first converted report) findings after
+  pub finds : Finds formats.to 1 (take count (records formats.from originals)) (at_first formats.to converted report) findings after
   pub part : IsPrefix text (verdict_lines 1 findings)
 
-pub record IsPartOfWhole (originals converted report text : List ℕ) : Type 0 where
+pub record IsPartOfWhole (formats : Formats) (originals converted report text : List ℕ) : Type 0 where
   pub whole : List ℕ
-  pub is : IsCheckText originals converted report whole
+  pub is : IsCheckText formats originals converted report whole
   pub part : IsPrefix text whole
 
-abbrev pub IsCheckPart : List ℕ → List ℕ → List ℕ → List ℕ → Type 0
-IsCheckPart originals converted report text = IsPartOfFirst originals converted report text ⊎ IsPartOfWhole originals converted report text
+abbrev pub IsCheckPart : Formats → List ℕ → List ℕ → List ℕ → List ℕ → Type 0
+IsCheckPart formats originals converted report text = IsPartOfFirst formats originals converted report text ⊎ IsPartOfWhole formats originals converted report text

@@ -2,20 +2,25 @@
 use Rattle.std.specs.Prelude.{◌≡◌, ◌⊎◌, ◌↔◌, ⊤, ℕ, List, [], ◌∷◌, ◌++◌, Bool, true, false, Option, Some, None, codes, decimal, ◌==◌, if◌then◌else◌}
 use Rattle.mc_base.specs.declared.ids.AtomId.{AtomId}
 use Rattle.mc_base.specs.declared.refusal.Refusal.{Refusal}
+use Rattle.mc_base.specs.declared.span.Span.{Span}
 use Rattle.mc_base.specs.declared.verdict.Verdict as verdict
 use Rattle.mc_base.specs.declared.verdict.Verdict.TheVariants as verdicts
 use Rattle.mc_mol.specs.Molecule.{Molecule}
 use Rattle.mc_report.specs.declared.report_line.ReportLine.{ReportLine}
 use Rattle.mc_report.specs.declared.report_line.ReportLine.TheVariants.{Ok as OkLine, Refused as RefusedLine}
 use Rattle.mc_report.specs.Grammar.{Spells, number_of}
+use Rattle.smi_mean.specs.Sound.{IsSound}
 use Rattle.mc_same.specs.Differences.{IsVerdict}
-use Rattle.mc_convert.specs.declared.records.NextLine.{NextLine}
-use Rattle.mc_convert.specs.declared.records.NextLine.TheVariants.{Line, TooLong, End}
+use Rattle.mc_convert.specs.declared.formats.Target.{Target}
+use Rattle.mc_convert.specs.declared.records.Passed.{Passed}
+use Rattle.mc_convert.specs.declared.records.Passed.TheVariants.{Line, TooLong}
 use Rattle.mc_convert.specs.declared.record_read.RecordRead.{RecordRead}
 use Rattle.mc_convert.specs.declared.record_read.RecordRead.TheVariants.{Stands, Refused}
 use Rattle.mc_convert.specs.declared.finding.Finding.{Finding}
 use Rattle.mc_convert.specs.declared.finding.Finding.TheVariants.{Map, Shown, Report, Missing, Input, Output, Refusal as NotShown}
 use Rattle.mc_convert.specs.Answers.{RecordStands, Shows}
+use Rattle.mc_convert.specs.Readers.{found}
+use Rattle.mc_convert.specs.Records.{Record, Line as RecordLine, TooLong as RecordLong, IsNameAt}
 use Rattle.mc_convert.specs.Runs.{IsShown}
 
 -- what a line of the report says of record k; a line that is too long says nothing, and where there is none nothing is said
@@ -40,13 +45,13 @@ pub record SaysRefused (k : ℕ) (line : Option (Option (List ℕ))) (P : Refusa
   pub holds : P refusal
 
 -- the original can be read, and the converted record can't
-pub record IsOutputShown (original converted : Option (List ℕ)) : Type 0 where
+pub record IsOutputShown (to : Target) (original converted : Record) : Type 0 where
   pub input : Molecule
   pub stands : RecordStands original input
-  pub shown : IsShown converted
+  pub shown : IsShown to converted
 
 -- two records stand for molecules that compare so under a map
-pub record Compare (original converted : Option (List ℕ)) (map : List AtomId) (v : verdict.Verdict) : Type 0 where
+pub record Compare (original converted : Record) (map : List AtomId) (v : verdict.Verdict) : Type 0 where
   pub input : Molecule
   pub output : Molecule
   pub input_stands : RecordStands original input
@@ -54,23 +59,23 @@ pub record Compare (original converted : Option (List ℕ)) (map : List AtomId) 
   pub is : IsVerdict input output map v
 
 -- what is found of an original that is said to be written under a map, with the converted record that is next
-abbrev pub IsMapFinding : Option (List ℕ) → Option (Option (List ℕ)) → List AtomId → Finding → Type 0
-IsMapFinding original None map Missing = ⊤
-IsMapFinding original (Some converted) map Input = IsShown original
-IsMapFinding original (Some converted) map Output = IsOutputShown original converted
-IsMapFinding original (Some converted) map (Map v) = Compare original converted map v
-IsMapFinding original next map finding = ⊥
+abbrev pub IsMapFinding : Target → Record → Option Record → List AtomId → Finding → Type 0
+IsMapFinding to original None map Missing = ⊤
+IsMapFinding to original (Some converted) map Input = IsShown to original
+IsMapFinding to original (Some converted) map Output = IsOutputShown to original converted
+IsMapFinding to original (Some converted) map (Map v) = Compare original converted map v
+IsMapFinding to original next map finding = ⊥
 
 -- what is found of an original that is said to show a refusal
-abbrev pub IsRefusalFinding : Option (List ℕ) → Refusal → Finding → Type 0
-IsRefusalFinding original refusal Shown = Shows original refusal
-IsRefusalFinding original refusal NotShown = Shows original refusal → ⊥
-IsRefusalFinding original refusal finding = ⊥
+abbrev pub IsRefusalFinding : Target → Record → Refusal → Finding → Type 0
+IsRefusalFinding to original refusal Shown = Shows to original refusal
+IsRefusalFinding to original refusal NotShown = Shows to original refusal → ⊥
+IsRefusalFinding to original refusal finding = ⊥
 
 -- what is found of original k
-abbrev pub IsFinding : ℕ → Option (List ℕ) → Option (Option (List ℕ)) → Option (Option (List ℕ)) → Finding → Type 0
-IsFinding k original line next finding = (SaysNothing k line × (finding ≡ Report))
-    ⊎ (SaysWritten k line (λ map. IsMapFinding original next map finding) ⊎ SaysRefused k line (λ refusal. IsRefusalFinding original refusal finding))
+abbrev pub IsFinding : Target → ℕ → Record → Option (Option (List ℕ)) → Option Record → Finding → Type 0
+IsFinding to k original line next finding = (SaysNothing k line × (finding ≡ Report))
+    ⊎ (SaysWritten k line (λ map. IsMapFinding to original next map finding) ⊎ SaysRefused k line (λ refusal. IsRefusalFinding to original refusal finding))
 
 -- the record is carried over as the report says
 abbrev pub is_true : Finding → Bool
@@ -111,18 +116,33 @@ abbrev pub if_numbered : Option ReportLine → ℕ → Option ReportLine
 if_numbered None k = None
 if_numbered (Some said) k = if number_of said == k then Some said else None
 
--- a line as it is met
-abbrev pub met : NextLine → List ℕ → Option (Option (List ℕ))
-met Line text = Some (Some text)
-met TooLong text = Some None
-met End text = None
+-- a line as it is met, and a record
+abbrev pub line_met : Option Passed → List ℕ → Option (Option (List ℕ))
+line_met None text = None
+line_met (Some Line) text = Some (Some text)
+line_met (Some TooLong) text = Some None
 
--- what a record is read as
-abbrev pub IsReadAs : Option (List ℕ) → RecordRead → Type 0
-IsReadAs given (Stands m) = RecordStands given m
-IsReadAs given (Refused refusal) = Shows given refusal
+abbrev pub record_met : Option Passed → List ℕ → Option Record
+record_met None text = None
+record_met (Some passed) text = Some (found passed text)
 
-abbrev pub AreReadAs : Option (Option (List ℕ)) → Option RecordRead → Type 0
+-- the name of a record stands here
+abbrev pub NameStands : Record → Span → Type 0
+NameStands RecordLong name = ⊥
+NameStands (RecordLine text) name = IsNameAt text name
+
+-- a record is read: it stands for this molecule, which is sound, and its name stands here
+pub record IsRead (given : Record) (m : Molecule) (name : Span) : Type 0 where
+  pub stands : RecordStands given m
+  pub sound : IsSound m
+  pub name_is : NameStands given name
+
+-- what a record is read as, whatever it is to be written as
+abbrev pub IsReadAs : Record → RecordRead → Type 0
+IsReadAs given (Stands m name) = IsRead given m name
+IsReadAs given (Refused refusal) = (to : Target) → Shows to given refusal
+
+abbrev pub AreReadAs : Option Record → Option RecordRead → Type 0
 AreReadAs None None = ⊤
 AreReadAs (Some given) (Some read) = IsReadAs given read
 AreReadAs next read = ⊥

@@ -1,13 +1,14 @@
+pub mod Formats
 pub mod Records
 pub mod Readers
 pub mod Answers
 pub mod Runs
+pub mod Ended
 pub mod Statuses
 pub mod Accepted
 pub mod Findings
 pub mod Checks
 pub mod CheckSteps
 pub mod CheckRuns
-pub mod LeftOver
 pub mod Words
 pub mod Promises

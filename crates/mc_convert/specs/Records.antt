@@ -1,21 +1,55 @@
--- The records of an input of lines (this project's own): its lines that aren't empty.
-use Rattle.std.specs.Prelude.{ℕ, Bool, true, false, List, [], ◌∷◌, ◌++◌, Option, Some, None, filter, map}
-use Rattle.mc_io.specs.Lines.{line_feed, pieces, text_of, lines_of}
+-- The records of an input (this project's own): of lines of SMILES, the lines that aren't empty.
+use Rattle.std.specs.Prelude.{ℕ, ◌<◌, ◌≤◌, ⊤, length, slice_range, ◌≡◌, Bool, true, false, List, [], ◌∷◌, ◌++◌, Option, Some, None, filter, map}
+use Rattle.mc_base.specs.declared.span.Span.{Span}
+use Rattle.mc_io.specs.Lines.{IsLineText, ended_lines, line_feed, lines_of, most_bytes, pieces, text_of}
+use Rattle.smi_mean.specs.Lines.{name_of}
+use Rattle.mc_convert.specs.declared.formats.Origin.{Origin}
+use Rattle.mc_convert.specs.declared.formats.Origin.TheVariants.{Smi}
+use Rattle.mc_convert.specs.declared.given.Given.{Given}
+use Rattle.mc_convert.specs.declared.given.Given.TheVariants.{Line as GivenLine, TooLong as GivenLong}
 
--- a line that is a record: any but an empty one; of a line that is too long there is no text
+-- a record: a line with this text, or a line that is too long, of which there is no text
+pub data Record : Type 0 where
+  Line : List ℕ → Record
+  TooLong : Record
+
+-- a record as it is handed in
+abbrev pub record_of : Given → Record
+record_of (GivenLine text) = Line text.now
+record_of GivenLong = TooLong
+
+-- a line that is given isn't empty, is within the limit, and has nothing of its end
+pub record IsGivenLine (text : List ℕ) : Type 0 where
+  pub some : 0 < length text
+  pub short : length text ≤ most_bytes
+  pub one : IsLineText text
+
+abbrev pub IsGiven : Given → Type 0
+IsGiven (GivenLine text) = IsGivenLine text.now
+IsGiven GivenLong = ⊤
+
+-- a line that is a record: any but an empty one
 abbrev pub is_record : Option (List ℕ) → Bool
 is_record None = true
 is_record (Some []) = false
 is_record (Some (b ∷ bs)) = true
 
-abbrev pub records : List ℕ → List (Option (List ℕ))
-records bytes = filter is_record (lines_of bytes)
+abbrev pub line_record : Option (List ℕ) → Record
+line_record None = TooLong
+line_record (Some text) = Line text
+
+abbrev pub records : Origin → List ℕ → List Record
+records Smi bytes = map line_record (filter is_record (lines_of bytes))
+
+-- those that have ended, whatever bytes come next
+abbrev pub ended_records : Origin → List ℕ → List Record
+ended_records Smi bytes = map line_record (filter is_record (ended_lines bytes))
 
 abbrev pub is_some_text : List ℕ → Bool
 is_some_text [] = false
 is_some_text (b ∷ bs) = true
 
--- the texts of the records, whatever their length: a limit on it is a reader's
+-- the texts of the lines that are records, whatever their length: a limit on it is a reader's
 abbrev pub record_texts : List ℕ → List (List ℕ)
 record_texts bytes = filter is_some_text (map text_of (pieces bytes))
 
@@ -25,6 +59,16 @@ with_name [] name = 32 ∷ name
 with_name (b ∷ bs) [] = b ∷ bs
 with_name (b ∷ bs) (c ∷ cs) = (b ∷ bs) ++ (32 ∷ c ∷ cs)
 
--- a written record
+-- the name of a line stands here in it
+pub record IsNameAt (text : List ℕ) (name : Span) : Type 0 where
+  pub within : (name.from ≤ name.to) × (name.to ≤ length text)
+  pub is : slice_range text name.from name.to ≡ name_of text
+
+-- the name of a record
+abbrev pub name_in : Record → List ℕ
+name_in (Line text) = name_of text
+name_in TooLong = []
+
+-- a text as a line
 abbrev pub line : List ℕ → List ℕ
 line text = text ++ line_feed ∷ []

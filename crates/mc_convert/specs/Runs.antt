@@ -8,7 +8,9 @@ use Rattle.mc_convert.specs.declared.status.Halt.{Halt}
 use Rattle.mc_convert.specs.declared.status.Halt.TheVariants.{ReadFault as ReadHalt, InputLimit as LimitHalt, WriteFault as WriteHalt, NoMemory as MemoryHalt}
 use Rattle.mc_convert.specs.declared.status.Status.{Status}
 use Rattle.mc_convert.specs.declared.status.Status.TheVariants.{Done, SomeRefused, ReadFault, WriteFault, Memory, InputLimit}
-use Rattle.mc_convert.specs.Records.{records}
+use Rattle.mc_convert.specs.declared.formats.Formats.{Formats}
+use Rattle.mc_convert.specs.declared.formats.Target.{Target}
+use Rattle.mc_convert.specs.Records.{Record, records}
 use Rattle.mc_convert.specs.Answers.{Reply, IsPartOf, Shows, Whole, Stopped, LacksLine}
 
 -- the two outputs have grown by bytes of which P holds, where they are known
@@ -20,19 +22,19 @@ pub record Grown (old new : Outputs) (P : List ℕ → List ℕ → Type 0) : Ty
   pub holds : P more0 more1
 
 -- each record of the input is answered whole, where the input is known
-abbrev pub AnswersAll : Option (List ℕ) → Outputs → Outputs → Type 0
-AnswersAll input old new = IfSome input (λ bytes. Grown old new (Whole (records bytes)))
+abbrev pub AnswersAll : Formats → Option (List ℕ) → Outputs → Outputs → Type 0
+AnswersAll formats input old new = IfSome input (λ bytes. Grown old new (Whole formats.to (records formats.from bytes)))
 
 -- the first records are answered, the last of them maybe in part
-abbrev pub AnswersSome : Option (List ℕ) → Outputs → Outputs → Type 0
-AnswersSome input old new = IfSome input (λ bytes. Grown old new (Stopped (records bytes)))
+abbrev pub AnswersSome : Formats → Option (List ℕ) → Outputs → Outputs → Type 0
+AnswersSome formats input old new = IfSome input (λ bytes. Grown old new (Stopped formats.to (records formats.from bytes)))
 
 -- the report lacks a line, so not all answers are held
-abbrev pub AnswersLess : Option (List ℕ) → Outputs → Outputs → Type 0
-AnswersLess input old new = IfSome input (λ bytes. Grown old new (LacksLine (records bytes)))
+abbrev pub AnswersLess : Formats → Option (List ℕ) → Outputs → Outputs → Type 0
+AnswersLess formats input old new = IfSome input (λ bytes. Grown old new (LacksLine (records formats.from bytes)))
 
 -- the input and what the outputs hold are known, and the outputs have grown by the answers to all records
-pub record AllIsHeld (input : Option (List ℕ)) (old new : Outputs) : Type 0 where
+pub record AllIsHeld (formats : Formats) (input : Option (List ℕ)) (old new : Outputs) : Type 0 where
   pub bytes : List ℕ
   pub before0 : List ℕ
   pub before1 : List ℕ
@@ -43,16 +45,16 @@ pub record AllIsHeld (input : Option (List ℕ)) (old new : Outputs) : Type 0 wh
   pub old1_is : old.held 1 ≡ Some before1
   pub new0_is : new.held 0 ≡ Some (before0 ++ grown0)
   pub new1_is : new.held 1 ≡ Some (before1 ++ grown1)
-  pub whole : Whole (records bytes) grown0 grown1
+  pub whole : Whole formats.to (records formats.from bytes) grown0 grown1
 
 -- the record shows some refusal
-abbrev pub IsShown : Option (List ℕ) → Type 0
-IsShown text = (refusal : Refusal) × Shows text refusal
+abbrev pub IsShown : Target → Record → Type 0
+IsShown to given = (refusal : Refusal) × Shows to given refusal
 
 -- one of the records shows a refusal
-abbrev pub SomeShown : List (Option (List ℕ)) → Type 0
-SomeShown [] = ⊥
-SomeShown (text ∷ texts) = IsShown text ⊎ SomeShown texts
+abbrev pub SomeShown : Target → List Record → Type 0
+SomeShown to [] = ⊥
+SomeShown to (given ∷ more) = IsShown to given ⊎ SomeShown to more
 
 -- the run went to its end
 abbrev pub IsWhole : Status → Type 0
@@ -77,22 +79,22 @@ pub record HoldsLess (reply : Reply) (old new : Outputs) : Type 0 where
   pub less : length part0 + length part1 < length reply.out + length reply.report
 
 -- each record was answered, and it is said whether one is refused
-pub record RanWhole (refused : Bool) (before after : Input) (old new : Outputs) : Type 0 where
+pub record RanWhole (formats : Formats) (refused : Bool) (before after : Input) (old new : Outputs) : Type 0 where
   pub at_end : IsTrue after.ended
-  pub all : AnswersAll before.left old new
-  pub shown : IfSome before.left (λ input. IsTrue refused ↔ SomeShown (records input))
+  pub all : AnswersAll formats before.left old new
+  pub shown : IfSome before.left (λ input. IsTrue refused ↔ SomeShown formats.to (records formats.from input))
 
 -- a stop has its cause
-abbrev pub HasStopped : Halt → Input → Input → Outputs → Outputs → Type 0
-HasStopped ReadHalt before after old new = Rose before.faults after.faults × (after.ended ≡ false)
-HasStopped LimitHalt before after old new = after.ended ≡ false
-HasStopped WriteHalt before after old new = Rose old.faults new.faults × AnswersLess before.left old new
-HasStopped MemoryHalt before after old new = Unit {0}
+abbrev pub HasStopped : Formats → Halt → Input → Input → Outputs → Outputs → Type 0
+HasStopped formats ReadHalt before after old new = Rose before.faults after.faults × (after.ended ≡ false)
+HasStopped formats LimitHalt before after old new = after.ended ≡ false
+HasStopped formats WriteHalt before after old new = Rose old.faults new.faults × AnswersLess formats before.left old new
+HasStopped formats MemoryHalt before after old new = Unit {0}
 
 -- How a run over the records of an input ended.
-abbrev pub Ran : Result Bool Halt → Input → Input → Outputs → Outputs → Type 0
-Ran (Ok refused) before after old new = RanWhole refused before after old new
-Ran (Err halt) before after old new = AnswersSome before.left old new × HasStopped halt before after old new
+abbrev pub Ran : Formats → Result Bool Halt → Input → Input → Outputs → Outputs → Type 0
+Ran formats (Ok refused) before after old new = RanWhole formats refused before after old new
+Ran formats (Err halt) before after old new = AnswersSome formats before.left old new × HasStopped formats halt before after old new
 
 -- ---- the limit
 

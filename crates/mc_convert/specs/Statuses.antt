@@ -1,7 +1,7 @@
 -- The numbers of the statuses (this project's own).
 use Rattle.std.specs.Prelude.{ℕ, Bool, true, false}
-use Rattle.mc_io.specs.declared.whole.ReadStop.{ReadStop}
-use Rattle.mc_io.specs.declared.whole.ReadStop.TheVariants.{ReadFault as ReadFailed, InputLimit as LimitReached, NoMemory as MemoryOut}
+use Rattle.mc_io.specs.declared.read_stop.ReadStop.{ReadStop}
+use Rattle.mc_io.specs.declared.read_stop.ReadStop.TheVariants.{ReadFault as ReadFailed, InputLimit as LimitReached, NoMemory as MemoryOut}
 use Rattle.mc_convert.specs.declared.status.Halt.{Halt}
 use Rattle.mc_convert.specs.declared.status.Halt.TheVariants.{ReadFault as ReadHalt, InputLimit as LimitHalt, WriteFault as WriteHalt, NoMemory as MemoryHalt}
 use Rattle.mc_convert.specs.declared.status.Status.{Status}

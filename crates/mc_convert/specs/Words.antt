@@ -3,15 +3,22 @@ use Rattle.std.specs.List.{list_all}
 use Rattle.std.specs.Prelude.{◌≡◌, ◌≤◌, ◌⊎◌, ℕ, Bool, not, true, false, List, [], ◌∷◌, ◌++◌, ◌==◌, codes, length}
 use Rattle.mc_convert.specs.declared.command_line.Command.{Command}
 use Rattle.mc_convert.specs.declared.command_line.Command.TheVariants.{Convert, Check}
+use Rattle.mc_convert.specs.declared.formats.Formats.{Formats}
+use Rattle.mc_convert.specs.Formats.{origin_name, target_name}
 
 -- the first word
 abbrev pub command_name : Command → List ℕ
-command_name Convert = codes "convert"
-command_name Check = codes "check"
+command_name (Convert formats) = codes "convert"
+command_name (Check formats) = codes "check"
+
+-- what its records are and are to be
+abbrev pub formats_of : Command → Formats
+formats_of (Convert formats) = formats
+formats_of (Check formats) = formats
 
 -- the words before the files
 abbrev pub command_words : Command → List (List ℕ)
-command_words command = command_name command ∷ codes "--from" ∷ codes "smi" ∷ codes "--to" ∷ codes "smi" ∷ []
+command_words command = command_name command ∷ codes "--from" ∷ origin_name (formats_of command).from ∷ codes "--to" ∷ target_name (formats_of command).to ∷ []
 
 -- a file is a word that isn't empty and doesn't begin with '-'
 abbrev pub is_file : List ℕ → Bool
@@ -20,8 +27,8 @@ is_file (first ∷ rest) = not (first == 45)
 
 -- how many files a command may have
 abbrev pub IsCount : Command → ℕ → Type 0
-IsCount Convert n = n ≤ 1
-IsCount Check n = n ≡ 3
+IsCount (Convert formats) n = n ≤ 1
+IsCount (Check formats) n = n ≡ 3
 
 -- the words of a command with these files
 pub record IsCommand (command : Command) (words files : List (List ℕ)) : Type 0 where

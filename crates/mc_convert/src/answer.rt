@@ -1,16 +1,17 @@
-ghost use Rattle.std.specs.Prelude.{◌≡◌, ◌<◌, ◌≤◌, ◌↔◌, [], None, Some, IfOk, OnOk, IsTrue, length, true};
+ghost use Rattle.std.specs.Prelude.{◌≡◌, ◌≤◌, ◌↔◌, [], IfOk, OnOk, IsTrue, true};
 ghost use Rattle.mc_report.specs.Report.{refused_line};
 ghost use Rattle.smi_mean.specs.Sound.{IsSound};
-ghost use Rattle.mc_io.specs.Lines.{IsLineText, most_bytes};
-ghost use Rattle.mc_convert.specs.Records.{with_name};
+ghost use Rattle.mc_convert.specs.Records.{IsGiven, record_of, with_name};
 ghost use Rattle.mc_convert.specs.Answers.{IsAnswer};
-ghost use Rattle.mc_convert.specs.Accepted.{IsAccepted};
+ghost use Rattle.mc_convert.specs.Accepted.{IsAccepted, IsSmiles};
 ghost use Rattle.mc_convert.specs.Runs.{IsShown};
 
-use mc_base::{Kind, NoMemory, Refusal, Stop, Text, Written};
+use crate::formats::Target;
+use crate::given::Given;
+use crate::record_read::{RecordRead, name_of, read_record};
+use mc_base::{NoMemory, Refusal, Text, Written};
 use mc_mol::Mol;
 use mc_report::{put_ok, put_refused};
-use smi_mean::read_smiles;
 use smi_write::write_smiles;
 use std::alloc::Global;
 
@@ -34,11 +35,11 @@ fn push_name(out: &mut Text, name: &[u8]) -> Result<(), NoMemory>
     Ok(())
 }
 
-/// The answer to record k, from 1, where it is accepted.
-fn accepted(alloc: Global, k: u64, mol: &Mol, name: &[u8]) -> Result<Answer, NoMemory>
+/// The answer to record k, from 1, where it is accepted and SMILES is written.
+fn smiles(alloc: Global, k: u64, mol: &Mol, name: &[u8]) -> Result<Answer, NoMemory>
     requires number { 1 ≤ k }
     requires sound { IsSound mol.now }
-    ensures { IfOk result (IsAccepted k mol.now name.now) }
+    ensures { IfOk result (IsSmiles k mol.now name.now) }
 {
     let written = write_smiles(alloc, mol)?;
     let Written { text, order } = written;
@@ -52,6 +53,17 @@ fn accepted(alloc: Global, k: u64, mol: &Mol, name: &[u8]) -> Result<Answer, NoM
         report,
         refused: false,
     })
+}
+
+/// The answer to record k, from 1, where it is accepted.
+fn accepted(alloc: Global, k: u64, mol: &Mol, name: &[u8], to: Target) -> Result<Answer, NoMemory>
+    requires number { 1 ≤ k }
+    requires sound { IsSound mol.now }
+    ensures { IfOk result (IsAccepted to k mol.now name.now) }
+{
+    match to {
+        Target::Smi => smiles(alloc, k, mol, name),
+    }
 }
 
 /// The answer to record k, from 1, where it is refused.
@@ -68,37 +80,27 @@ fn refused(alloc: Global, k: u64, refusal: &Refusal) -> Result<Answer, NoMemory>
     })
 }
 
-/// The answer to record k, from 1, which is a line.
-pub fn answer_record(alloc: Global, k: u64, bytes: &[u8]) -> Result<Answer, NoMemory>
+/// The answer to record k, from 1.
+#[tactic(auto, using(crate::proofs::Answering::is_written, crate::proofs::Answering::none_shown, crate::proofs::Answering::is_refused, crate::proofs::Answering::is_shown))]
+pub fn answer_record(
+    alloc: Global,
+    k: u64,
+    given: Given<'_>,
+    to: Target,
+) -> Result<Answer, NoMemory>
     requires number { 1 ≤ k }
-    requires some { 0 < length bytes.now }
-    requires short { length bytes.now ≤ most_bytes }
-    requires line { IsLineText bytes.now }
-    ensures answer { IfOk result (λ r. IsAnswer k (Some bytes.now) record { out = r.out; report = r.report }) }
-    ensures refused { IfOk result (λ r. IsTrue r.refused ↔ IsShown (Some bytes.now)) }
+    requires given { IsGiven given }
+    ensures answer { IfOk result (λ r. IsAnswer to k (record_of given.entry) record { out = r.out; report = r.report }) }
+    ensures refused { IfOk result (λ r. IsTrue r.refused ↔ IsShown to (record_of given.entry)) }
 {
-    match read_smiles(alloc, bytes) {
-        Ok(read) => {
-            let name = &bytes[read.name.from as usize..read.name.to as usize];
-            let answer = accepted(alloc, k, &read.mol, name)?;
+    match read_record(alloc, given)? {
+        RecordRead::Stands { mol, name } => {
+            let answer = accepted(alloc, k, &mol, name_of(given, name), to)?;
             Ok(answer)
         }
-        Err(Stop::Refused(refusal)) => {
+        RecordRead::Refused(refusal) => {
             let answer = refused(alloc, k, &refusal)?;
             Ok(answer)
         }
-        Err(Stop::NoMemory) => Err(NoMemory),
     }
-}
-
-/// The answer to record k, from 1, which is a line that is too long. It isn't read further.
-#[tactic(auto, using(crate::proofs::Answering::long_refused, crate::proofs::Answering::long_is_shown))]
-pub fn answer_long(alloc: Global, k: u64) -> Result<Answer, NoMemory>
-    requires number { 1 ≤ k }
-    ensures answer { IfOk result (λ r. IsAnswer k None record { out = r.out; report = r.report }) }
-    ensures refused { IfOk result (λ r. IsTrue r.refused ↔ IsShown None) }
-{
-    let refusal = Refusal::at(alloc, Kind::LineTooLong, 1);
-    let answer = refused(alloc, k, &refusal)?;
-    Ok(answer)
 }

@@ -1,6 +1,7 @@
-ghost use Rattle.std.specs.Prelude.{◌≡◌, ◌<◌, ◌≤◌, ◌&&◌, not, [], ℕ, List, Option, Err, IfOk, IfErr, OnOk, OnErr, IsTrue};
+ghost use Rattle.std.specs.Prelude.{◌≡◌, ◌<◌, ◌≤◌, ◌&&◌, not, [], ℕ, Err, IfOk, IfErr, OnOk, OnErr, IsTrue};
 ghost use Rattle.mc_io.specs.LineReader.{ahead};
 ghost use Rattle.mc_convert.specs.Findings.{IsReadAs};
+ghost use Rattle.mc_convert.specs.Records.{Record};
 ghost use Rattle.mc_convert.specs.CheckSteps.{Advance, MayRead, ReadHalts, FindsNext, fresh_readers};
 ghost use Rattle.mc_convert.specs.CheckRuns.{OneChecked, PutSome, CheckHalts, ChecksSome, CheckRan, FoundAll, LessAt, RestChecked, RestStopped, Written};
 ghost use Rattle.mc_convert.specs.Checks.{extra_line, extra_text};
@@ -13,6 +14,7 @@ ghost use Rattle.mc_convert.specs.Runs.{Taken};
 
 use crate::check_readers::CheckReaders;
 use crate::finding::{Finding, map_finding, refusal_finding};
+use crate::formats::{Formats, Target};
 use crate::record_read::RecordRead;
 use crate::status::{Halt, Status};
 use mc_base::{Failed, Text};
@@ -27,10 +29,11 @@ fn find_next<S: Source>(
     alloc: Global,
     k: u64,
     original: RecordRead,
+    to: Target,
     source: &mut S,
 ) -> Result<Finding, Halt>
     requires { MayRead S.LIMIT readers.old }
-    ensures finds { (given : Option (List ℕ)) → IsReadAs given original → IfOk result (FindsNext k given
+    ensures finds { (given : Record) → IsReadAs given original → IfOk result (FindsNext to k given
         (ahead readers.old.converted (S.inputs source.old 1).left) (ahead readers.new.converted (S.inputs source.new 1).left)
         (ahead readers.old.report (S.inputs source.old 2).left) (ahead readers.new.report (S.inputs source.new 2).left)) }
     ensures advance { Advance readers.old readers.new (S.inputs source.old) (S.inputs source.new) }
@@ -39,17 +42,14 @@ fn find_next<S: Source>(
     ensures kept { readers.new.originals ≡ readers.old.originals }
     ensures left { (S.inputs source.new 0).left ≡ (S.inputs source.old 0).left }
 {
-    match readers.read_said(alloc, k, source) {
-        Ok(Some(ReportLine::Ok { map, .. })) => match readers.read_converted(alloc, source) {
-            Ok(converted) => match map_finding(alloc, &original, converted, map.as_slice()) {
-                Ok(finding) => Ok(finding),
-                Err(_) => Err(Halt::NoMemory),
-            },
-            Err(halt) => Err(halt),
-        },
-        Ok(Some(ReportLine::Refused { refusal, .. })) => Ok(refusal_finding(&original, &refusal)),
-        Ok(None) => Ok(Finding::Report),
-        Err(halt) => Err(halt),
+    match readers.read_said(alloc, k, source)? {
+        Some(ReportLine::Ok { map, .. }) => {
+            let converted = readers.read_converted(alloc, to.read_back(), source)?;
+            let finding = map_finding(alloc, &original, converted, map.as_slice())?;
+            Ok(finding)
+        }
+        Some(ReportLine::Refused { refusal, .. }) => Ok(refusal_finding(&original, &refusal)),
+        None => Ok(Finding::Report),
     }
 }
 
@@ -60,11 +60,12 @@ fn check_next<S: Source>(
     alloc: Global,
     k: u64,
     original: RecordRead,
+    to: Target,
     source: &mut S,
     lines: &mut Text,
 ) -> Result<bool, Halt>
     requires { MayRead S.LIMIT readers.old }
-    ensures checked { (given : Option (List ℕ)) → IsReadAs given original → IfOk result (OneChecked k given
+    ensures checked { (given : Record) → IsReadAs given original → IfOk result (OneChecked to k given
         (ahead readers.old.converted (S.inputs source.old 1).left) (ahead readers.new.converted (S.inputs source.new 1).left)
         (ahead readers.old.report (S.inputs source.old 2).left) (ahead readers.new.report (S.inputs source.new 2).left) lines.old lines.new) }
     ensures halts { IfErr result (λ halt. ReadHalts S.LIMIT halt readers.new (S.inputs source.old) (S.inputs source.new)) }
@@ -73,7 +74,7 @@ fn check_next<S: Source>(
     ensures kept { readers.new.originals ≡ readers.old.originals }
     ensures left { (S.inputs source.new 0).left ≡ (S.inputs source.old 0).left }
 {
-    let finding = find_next(readers, alloc, k, original, source)?;
+    let finding = find_next(readers, alloc, k, original, to, source)?;
     finding.put_line(lines, k)?;
     Ok(finding.is_true())
 }
@@ -108,19 +109,20 @@ fn put_piece<K: Sink>(sink: &mut K, lines: &mut Text) -> Result<(), Failed>
 }
 
 /// Checks all originals, writes their verdict lines, and says whether all are true.
-#[tactic(auto, using(crate::proofs::Checking::stopped_between, crate::proofs::Checking::all_found, crate::proofs::Checking::none_of, crate::proofs::Checking::read_halts, crate::proofs::CheckLifts::advance_trans, crate::proofs::CheckLifts::halts_later, crate::proofs::CheckLifts::all_within))]
+#[tactic(auto, using(crate::proofs::Checking::round_stopped, crate::proofs::Checking::read_halts, crate::proofs::CheckLifts::advance_trans, crate::proofs::CheckLifts::halts_later, crate::proofs::CheckLifts::all_within))]
 fn check_originals<S: Source, K: Sink>(
     readers: &mut CheckReaders,
     alloc: Global,
+    formats: Formats,
     source: &mut S,
     sink: &mut K,
 ) -> Result<bool, Halt>
     requires { readers.old ≡ fresh_readers }
-    ensures found { IfOk result (λ all_true. FoundAll all_true (S.inputs source.old 0).left (S.inputs source.old 1).left (S.inputs source.old 2).left
+    ensures found { IfOk result (λ all_true. FoundAll formats all_true (S.inputs source.old 0).left (S.inputs source.old 1).left (S.inputs source.old 2).left
         (ahead readers.new.converted (S.inputs source.new 1).left) (ahead readers.new.report (S.inputs source.new 2).left) (K.outputs sink.old) (K.outputs sink.new)) }
     ensures ended { IfOk result (λ _. IsTrue readers.new.originals.ended) }
-    ensures some { IfErr result (λ halt. ChecksSome (S.inputs source.old 0).left (S.inputs source.old 1).left (S.inputs source.old 2).left ((K.outputs sink.old).held 0) ((K.outputs sink.new).held 0)) }
-    ensures less { IfErr result (λ halt. LessAt halt (S.inputs source.old 0).left (S.inputs source.old 1).left (S.inputs source.old 2).left (K.outputs sink.old) (K.outputs sink.new)) }
+    ensures some { IfErr result (λ halt. ChecksSome formats (S.inputs source.old 0).left (S.inputs source.old 1).left (S.inputs source.old 2).left ((K.outputs sink.old).held 0) ((K.outputs sink.new).held 0)) }
+    ensures less { IfErr result (λ halt. LessAt formats halt (S.inputs source.old 0).left (S.inputs source.old 1).left (S.inputs source.old 2).left (K.outputs sink.old) (K.outputs sink.new)) }
     ensures halts { IfErr result (λ halt. CheckHalts S.LIMIT halt readers.new (S.inputs source.old) (S.inputs source.new) (K.outputs sink.old) (K.outputs sink.new)) }
     ensures written { Written (K.outputs sink.old) (K.outputs sink.new) }
     ensures advance { Advance readers.old readers.new (S.inputs source.old) (S.inputs source.new) }
@@ -129,31 +131,15 @@ fn check_originals<S: Source, K: Sink>(
     let mut all_true = true;
     let mut number = 0u64;
     let mut lines = Text::new(alloc);
-    loop {
-        let original = match readers.read_original(alloc, source) {
-            Ok(Some(original)) => original,
-            Ok(None) => match put_lines(sink, &mut lines) {
-                Ok(()) => return Ok(all_true),
-                Err(_) => return Err(Halt::WriteFault),
-            },
-            Err(halt) => return Err(halt),
-        };
+    while let Some(original) = readers.read_original(alloc, formats.from, source)? {
         number += 1;
-        match check_next(readers, alloc, number, original, source, &mut lines) {
-            Ok(is_true) => all_true = both(all_true, is_true),
-            Err(halt) => return Err(halt),
-        }
-        match put_piece(sink, &mut lines) {
-            Ok(()) => {}
-            Err(_) => return Err(Halt::WriteFault),
-        }
+        all_true &= check_next(
+            readers, alloc, number, original, formats.to, source, &mut lines,
+        )?;
+        put_piece(sink, &mut lines)?;
     }
-}
-
-fn both(first: bool, second: bool) -> bool
-    ensures { result ≡ (first && second) }
-{
-    first && second
+    put_lines(sink, &mut lines)?;
+    Ok(all_true)
 }
 
 /// Writes the last line, where something is extra.
@@ -174,12 +160,13 @@ fn put_extra<K: Sink>(extra: bool, sink: &mut K) -> Result<(), Failed>
 #[tactic(auto, using(crate::proofs::Checking::read_halts, crate::proofs::CheckLifts::advance_trans, crate::proofs::CheckLifts::halts_later, crate::proofs::CheckLifts::all_within))]
 fn check_rest<S: Source, K: Sink>(
     readers: &mut CheckReaders,
+    to: Target,
     source: &mut S,
     sink: &mut K,
 ) -> Result<bool, Halt>
     requires { MayRead S.LIMIT readers.old }
-    ensures checked { IfOk result (RestChecked (ahead readers.old.converted (S.inputs source.old 1).left) (ahead readers.old.report (S.inputs source.old 2).left) (K.outputs sink.old) (K.outputs sink.new)) }
-    ensures stopped { IfErr result (λ halt. RestStopped halt (ahead readers.old.converted (S.inputs source.old 1).left) (ahead readers.old.report (S.inputs source.old 2).left) (K.outputs sink.old) (K.outputs sink.new)) }
+    ensures checked { IfOk result (RestChecked to (ahead readers.old.converted (S.inputs source.old 1).left) (ahead readers.old.report (S.inputs source.old 2).left) (K.outputs sink.old) (K.outputs sink.new)) }
+    ensures stopped { IfErr result (λ halt. RestStopped to halt (ahead readers.old.converted (S.inputs source.old 1).left) (ahead readers.old.report (S.inputs source.old 2).left) (K.outputs sink.old) (K.outputs sink.new)) }
     ensures ended { IfOk result (λ _. IsTrue readers.new.converted.ended × IsTrue readers.new.report.ended) }
     ensures halts { IfErr result (λ halt. CheckHalts S.LIMIT halt readers.new (S.inputs source.old) (S.inputs source.new) (K.outputs sink.old) (K.outputs sink.new)) }
     ensures written { Written (K.outputs sink.old) (K.outputs sink.new) }
@@ -188,7 +175,7 @@ fn check_rest<S: Source, K: Sink>(
     ensures kept { readers.new.originals ≡ readers.old.originals }
 {
     let more_lines = readers.has_more_lines(source)?;
-    let more_records = readers.has_more_records(source)?;
+    let more_records = readers.has_more_records(to.read_back(), source)?;
     let extra = more_lines || more_records;
     put_extra(extra, sink)?;
     Ok(extra)
@@ -203,33 +190,35 @@ fn is_all_true(all_true: bool, extra: bool) -> bool
 
 /// Checks all originals, and then what is left, and says whether each verdict is true and nothing is extra.
 #[tactic(auto, using(crate::proofs::Checking::stopped_by, crate::proofs::Limits::taken_stopped, crate::proofs::CheckLifts::all_within))]
-fn check_all<S: Source, K: Sink>(alloc: Global, source: &mut S, sink: &mut K) -> Result<bool, Halt>
-    ensures ran { CheckRan result (S.inputs source.old) (S.inputs source.new) (K.outputs sink.old) (K.outputs sink.new) }
+fn check_all<S: Source, K: Sink>(
+    alloc: Global,
+    formats: Formats,
+    source: &mut S,
+    sink: &mut K,
+) -> Result<bool, Halt>
+    ensures ran { CheckRan formats result (S.inputs source.old) (S.inputs source.new) (K.outputs sink.old) (K.outputs sink.new) }
     ensures taken { Taken 3 S.LIMIT (result ≡ Err Halt.InputLimit) (S.inputs source.old) (S.inputs source.new) }
     ensures written { Written (K.outputs sink.old) (K.outputs sink.new) }
     ensures later_read { (i : ℕ) → i < 3 → (S.inputs source.old i).faults ≤ (S.inputs source.new i).faults }
     ensures others { (i : ℕ) → 3 ≤ i → S.inputs source.new i ≡ S.inputs source.old i }
 {
-    let mut readers = match CheckReaders::new(alloc) {
-        Ok(readers) => readers,
-        Err(_) => return Err(Halt::NoMemory),
-    };
-    let all_true = match check_originals(&mut readers, alloc, source, sink) {
-        Ok(all_true) => all_true,
-        Err(halt) => return Err(halt),
-    };
-    match check_rest(&mut readers, source, sink) {
-        Ok(extra) => Ok(is_all_true(all_true, extra)),
-        Err(halt) => Err(halt),
-    }
+    let mut readers = CheckReaders::new(alloc)?;
+    let all_true = check_originals(&mut readers, alloc, formats, source, sink)?;
+    let extra = check_rest(&mut readers, formats.to, source, sink)?;
+    Ok(is_all_true(all_true, extra))
 }
 
 /// Checks a report: reads the originals (input 0), the converted records (input 1) and the report (input 2), and
 /// writes a verdict line for each original to output 0.
-pub fn check<S: Source, K: Sink>(alloc: Global, source: &mut S, sink: &mut K) -> Status
-    ensures { Checks S.LIMIT (S.inputs source.old) (S.inputs source.new) (K.outputs sink.old) (K.outputs sink.new) result }
+pub fn check<S: Source, K: Sink>(
+    alloc: Global,
+    formats: Formats,
+    source: &mut S,
+    sink: &mut K,
+) -> Status
+    ensures { Checks formats S.LIMIT (S.inputs source.old) (S.inputs source.new) (K.outputs sink.old) (K.outputs sink.new) result }
 {
-    match check_all(alloc, source, sink) {
+    match check_all(alloc, formats, source, sink) {
         Ok(all_true) => ended(all_true),
         Err(halt) => halt.status(),
     }

@@ -1,14 +1,15 @@
-ghost use Rattle.std.specs.Prelude.{◌≡◌, ◌≤◌, IfOk, Some, length};
-ghost use Rattle.mc_io.specs.Lines.{most_bytes};
-ghost use Rattle.mc_convert.specs.Findings.{AreReadAs, FindsSaid, met};
+ghost use Rattle.std.specs.Prelude.{IfOk};
+ghost use Rattle.mc_convert.specs.Findings.{AreReadAs, record_met};
+ghost use Rattle.mc_convert.specs.Readers.{IsLent, IsSomeLine};
 
-use crate::finding::said_of;
+use crate::formats::Origin;
 use crate::left_over::{more_lines, more_records};
-use crate::record_read::{RecordRead, read_long, read_record};
-use crate::records::{NextLine, next_line, next_record};
+use crate::record_read::{RecordRead, read_record};
+use crate::records::{Passed, next_line, next_record, record_in};
+use crate::said::said_of;
 use crate::status::Halt;
 use mc_base::NoMemory;
-use mc_io::{LineStep, Lines, Source};
+use mc_io::{Lines, Source};
 use mc_report::ReportLine;
 use std::alloc::Global;
 
@@ -21,14 +22,13 @@ pub struct CheckReaders {
 }
 
 impl CheckReaders {
-    ghost use Rattle.std.specs.Prelude.{◌≡◌, ◌<◌, ◌≤◌, ◌^◌, ℕ, length, IfOk, IfErr, IfSome, OnOk, IsNone, IsSome, IsTrue, Ok, Some, is_some};
-    ghost use Rattle.mc_io.specs.Lines.{most_bytes, lines_of};
+    ghost use Rattle.std.specs.Prelude.{◌≡◌, ◌<◌, ◌≤◌, ◌^◌, ℕ, IfOk, IfErr, IfSome, OnOk, IsNone, IsSome, IsTrue, is_some};
+    ghost use Rattle.mc_io.specs.Lines.{lines_of};
     ghost use Rattle.mc_io.specs.LineReader.{ahead, fresh};
     ghost use Rattle.mc_io.specs.Outside.{SameBut};
     ghost use Rattle.mc_convert.specs.Checks.{first};
     ghost use Rattle.mc_convert.specs.Records.{records};
-    ghost use Rattle.mc_convert.specs.Findings.{AreReadAs, met};
-    ghost use Rattle.mc_convert.specs.CheckSteps.{Advance, MayRead, ReadHalts, TakesFirst, ReadsNext, SaidNext};
+    ghost use Rattle.mc_convert.specs.CheckSteps.{Advance, MayRead, ReadHalts, ReadsNext, SaidNext};
 
     /// Readers that have read nothing yet.
     pub fn new(alloc: Global) -> Result<CheckReaders, NoMemory>
@@ -49,10 +49,11 @@ impl CheckReaders {
     pub fn read_original<S: Source>(
         &mut self,
         alloc: Global,
+        from: Origin,
         source: &mut S,
     ) -> Result<Option<RecordRead>, Halt>
         requires { MayRead S.LIMIT self.old }
-        ensures reads { IfOk result (ReadsNext records (ahead self.old.originals (S.inputs source.old 0).left) (ahead self.new.originals (S.inputs source.new 0).left)) }
+        ensures reads { IfOk result (ReadsNext from (ahead self.old.originals (S.inputs source.old 0).left) (ahead self.new.originals (S.inputs source.new 0).left)) }
         ensures ended { IfOk result (λ read. IsNone read → IsTrue self.new.originals.ended) }
         ensures passed { IfOk result (λ read. IsSome read → self.old.originals.passed < self.new.originals.passed) }
         ensures few { self.new.originals.passed < 2 ^ 64 }
@@ -62,8 +63,8 @@ impl CheckReaders {
         ensures kept { (self.new.converted ≡ self.old.converted) × (self.new.report ≡ self.old.report) }
         ensures others { SameBut 0 (S.inputs source.old) (S.inputs source.new) }
     {
-        let next = next_record(&mut self.originals, source)?;
-        let read = read_next(alloc, next, &self.originals)?;
+        let next = next_record(from, &mut self.originals, source)?;
+        let read = read_next(alloc, &self.originals, next)?;
         Ok(read)
     }
 
@@ -72,10 +73,11 @@ impl CheckReaders {
     pub fn read_converted<S: Source>(
         &mut self,
         alloc: Global,
+        from: Origin,
         source: &mut S,
     ) -> Result<Option<RecordRead>, Halt>
         requires { MayRead S.LIMIT self.old }
-        ensures reads { IfOk result (ReadsNext records (ahead self.old.converted (S.inputs source.old 1).left) (ahead self.new.converted (S.inputs source.new 1).left)) }
+        ensures reads { IfOk result (ReadsNext from (ahead self.old.converted (S.inputs source.old 1).left) (ahead self.new.converted (S.inputs source.new 1).left)) }
         ensures ended { IfOk result (λ read. IsNone read → IsTrue self.new.converted.ended) }
         ensures advance { Advance self.old self.new (S.inputs source.old) (S.inputs source.new) }
         ensures may_read { IfOk result (λ _. MayRead S.LIMIT self.new) }
@@ -83,8 +85,8 @@ impl CheckReaders {
         ensures kept { (self.new.originals ≡ self.old.originals) × (self.new.report ≡ self.old.report) }
         ensures others { SameBut 1 (S.inputs source.old) (S.inputs source.new) }
     {
-        let next = next_record(&mut self.converted, source)?;
-        let read = read_next(alloc, next, &self.converted)?;
+        let next = next_record(from, &mut self.converted, source)?;
+        let read = read_next(alloc, &self.converted, next)?;
         Ok(read)
     }
 
@@ -105,7 +107,7 @@ impl CheckReaders {
         ensures others { SameBut 2 (S.inputs source.old) (S.inputs source.new) }
     {
         let next = next_line(&mut self.report, source)?;
-        let said = said_next(alloc, k, next, &self.report)?;
+        let said = said_of(alloc, k, &self.report, next)?;
         Ok(said)
     }
 
@@ -127,9 +129,13 @@ impl CheckReaders {
 
     /// Reads the converted records to their end, and says whether one was left.
     #[tactic(auto, using(crate::proofs::CheckLifts::converted_advance, crate::proofs::CheckLifts::converted_halts, crate::proofs::CheckLifts::may_read_on))]
-    pub fn has_more_records<S: Source>(&mut self, source: &mut S) -> Result<bool, Halt>
+    pub fn has_more_records<S: Source>(
+        &mut self,
+        from: Origin,
+        source: &mut S,
+    ) -> Result<bool, Halt>
         requires { MayRead S.LIMIT self.old }
-        ensures some { IfOk result (λ some. IfSome (ahead self.old.converted (S.inputs source.old 1).left) (λ bytes. some ≡ is_some (first (records bytes)))) }
+        ensures some { IfOk result (λ some. IfSome (ahead self.old.converted (S.inputs source.old 1).left) (λ bytes. some ≡ is_some (first (records from bytes)))) }
         ensures ended { IfOk result (λ _. IsTrue self.new.converted.ended) }
         ensures advance { Advance self.old self.new (S.inputs source.old) (S.inputs source.new) }
         ensures may_read { IfOk result (λ _. MayRead S.LIMIT self.new) }
@@ -137,40 +143,26 @@ impl CheckReaders {
         ensures kept { (self.new.originals ≡ self.old.originals) × (self.new.report ≡ self.old.report) }
         ensures others { SameBut 1 (S.inputs source.old) (S.inputs source.new) }
     {
-        let more = more_records(&mut self.converted, source)?;
+        let more = more_records(from, &mut self.converted, source)?;
         Ok(more)
     }
 }
 
-/// Reads the record that a reader has passed.
-fn read_next(alloc: Global, next: NextLine, lines: &Lines) -> Result<Option<RecordRead>, NoMemory>
-    requires given { next ≡ NextLine.Line → lines.now.answer ≡ Some LineStep.Line }
-    requires short { next ≡ NextLine.Line → length lines.now.text ≤ most_bytes }
-    ensures { IfOk result (AreReadAs (met next lines.now.text)) }
+/// Reads the record that was passed, where there is one.
+fn read_next(
+    alloc: Global,
+    lines: &Lines,
+    next: Option<Passed>,
+) -> Result<Option<RecordRead>, NoMemory>
+    requires lent { IsLent lines.now next }
+    requires some { IsSomeLine lines.now.text next }
+    ensures { IfOk result (AreReadAs (record_met next lines.now.text)) }
 {
     match next {
-        NextLine::Line => {
-            let read = read_record(alloc, lines.line())?;
+        Some(passed) => {
+            let read = read_record(alloc, record_in(lines, passed))?;
             Ok(Some(read))
         }
-        NextLine::TooLong => Ok(Some(read_long(alloc))),
-        NextLine::End => Ok(None),
-    }
-}
-
-/// What the line that a reader has passed says of record k.
-fn said_next(
-    alloc: Global,
-    k: u64,
-    next: NextLine,
-    lines: &Lines,
-) -> Result<Option<ReportLine>, NoMemory>
-    requires given { next ≡ NextLine.Line → lines.now.answer ≡ Some LineStep.Line }
-    ensures { IfOk result (FindsSaid k (met next lines.now.text)) }
-{
-    match next {
-        NextLine::Line => said_of(alloc, k, next, lines.line()),
-        NextLine::TooLong => said_of(alloc, k, next, &[]),
-        NextLine::End => said_of(alloc, k, next, &[]),
+        None => Ok(None),
     }
 }

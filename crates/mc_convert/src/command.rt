@@ -38,8 +38,8 @@ pub fn run<S: Source, K: Sink>(
     ensures beyond { (i : ℕ) → 3 ≤ i → S.inputs source.new i ≡ S.inputs source.old i }
 {
     match command_of(words) {
-        Some(Command::Convert) => convert(alloc, source, sink),
-        Some(Command::Check) => check(alloc, source, sink),
+        Some(Command::Convert(formats)) => convert(alloc, formats, source, sink),
+        Some(Command::Check(formats)) => check(alloc, formats, source, sink),
         None => Status::Usage,
     }
 }

@@ -1,15 +1,23 @@
 ghost use Rattle.std.specs.Prelude.{◌≡◌, ◌↔◌, ◌∷◌, List, ℕ, None, Some, IfSome, IsTrue, map, string_bytes, length, codes, []};
 ghost use Rattle.std.specs.List.{list_all};
-ghost use Rattle.mc_convert.specs.Words.{IsCommand, IsNoCommand, IsCount, command_name, command_words, is_file};
+ghost use Rattle.mc_convert.specs.Words.{IsCommand, IsNoCommand, IsCount, command_name, command_words, formats_of, is_file};
+
+use crate::formats::{Formats, Origin, Target};
 
 /// The commands of the table.
 #[derive(Clone, Copy, Debug, PartialEq, Eq)]
 pub enum Command {
     /// converts the records of one input
-    Convert,
+    Convert(Formats),
     /// checks what a conversion has made, against its originals and its report
-    Check,
+    Check(Formats),
 }
+
+/// The formats that a command may have.
+const SMILES: Formats = Formats {
+    from: Origin::Smi,
+    to: Target::Smi,
+};
 
 impl Command {
     /// The first word.
@@ -17,8 +25,17 @@ impl Command {
         ensures { result.now ≡ command_name self }
     {
         match self {
-            Command::Convert => b"convert",
-            Command::Check => b"check",
+            Command::Convert(_) => b"convert",
+            Command::Check(_) => b"check",
+        }
+    }
+
+    fn formats(self) -> Formats
+        ensures { result ≡ formats_of self }
+    {
+        match self {
+            Command::Convert(formats) => formats,
+            Command::Check(formats) => formats,
         }
     }
 
@@ -27,8 +44,8 @@ impl Command {
         ensures { IsTrue result ↔ IsCount self count }
     {
         match self {
-            Command::Convert => count <= 1,
-            Command::Check => count == 3,
+            Command::Convert(_) => count <= 1,
+            Command::Check(_) => count == 3,
         }
     }
 }
@@ -43,12 +60,13 @@ pub(crate) fn is_word(word: &String, text: &[u8]) -> bool
 fn are_words_of(command: Command, words: &[String]) -> bool
     ensures { IsTrue result ↔ (map string_bytes words.now ≡ command_words command) }
 {
+    let formats = command.formats();
     words.len() == 5
         && is_word(&words[0], command.name())
         && is_word(&words[1], b"--from")
-        && is_word(&words[2], b"smi")
+        && is_word(&words[2], formats.from.name())
         && is_word(&words[3], b"--to")
-        && is_word(&words[4], b"smi")
+        && is_word(&words[4], formats.to.name())
 }
 
 fn is_file(word: &String) -> bool
@@ -88,10 +106,12 @@ pub(crate) fn command_and_files(words: &[String]) -> Option<(Command, &[String])
     ensures some { IfSome result (λ found. IsCommand found.0 (map string_bytes words.now) (map string_bytes found.1.now)) }
     ensures none { result ≡ None → IsNoCommand (map string_bytes words.now) }
 {
-    if let Some(files) = files_of(Command::Convert, words) {
-        Some((Command::Convert, files))
-    } else if let Some(files) = files_of(Command::Check, words) {
-        Some((Command::Check, files))
+    let convert = Command::Convert(SMILES);
+    let check = Command::Check(SMILES);
+    if let Some(files) = files_of(convert, words) {
+        Some((convert, files))
+    } else if let Some(files) = files_of(check, words) {
+        Some((check, files))
     } else {
         None
     }

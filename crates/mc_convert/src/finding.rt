@@ -1,13 +1,13 @@
-ghost use Rattle.std.specs.Prelude.{◌≡◌, ◌++◌, ◌↔◌, ℕ, List, Option, OnOk, IfOk, IsTrue, decimal};
+ghost use Rattle.std.specs.Prelude.{◌≡◌, ◌++◌, ◌↔◌, Option, Some, OnOk, IfOk, IsTrue, decimal};
 ghost use Rattle.mc_base.specs.Shown.{HasReason};
 ghost use Rattle.mc_convert.specs.Answers.{IsBarrierOf, Shows};
-ghost use Rattle.mc_convert.specs.Findings.{is_true, difference_text, finding_text, verdict_line, FindsSaid, IsMapFinding, IsReadAs, IsRefusalFinding, AreReadAs, if_numbered, met};
+ghost use Rattle.mc_convert.specs.Records.{Record};
+ghost use Rattle.mc_convert.specs.declared.formats.Target.{Target};
+ghost use Rattle.mc_convert.specs.Findings.{is_true, difference_text, finding_text, verdict_line, IsMapFinding, IsReadAs, IsRefusalFinding, AreReadAs};
 
 use crate::record_read::RecordRead;
-use crate::records::NextLine;
 use mc_base::{AtomId, Kind, NoMemory, Refusal, Text, Verdict};
 use mc_digits::put_number;
-use mc_report::{ReportLine, read_line};
 use mc_same::check_map;
 use std::alloc::Global;
 
@@ -92,35 +92,6 @@ fn push_finding(text: &mut Text, finding: Finding) -> Result<(), NoMemory>
     }
 }
 
-/// What a line of the report says of record k.
-pub fn said_of(
-    alloc: Global,
-    k: u64,
-    next: NextLine,
-    text: &[u8],
-) -> Result<Option<ReportLine>, NoMemory>
-    ensures { IfOk result (FindsSaid k (met next text.now)) }
-{
-    match next {
-        NextLine::Line => {
-            let said = read_line(alloc, text)?;
-            Ok(if_numbered(said, k))
-        }
-        NextLine::TooLong => Ok(None),
-        NextLine::End => Ok(None),
-    }
-}
-
-/// The same, if it speaks of record k.
-fn if_numbered(said: Option<ReportLine>, k: u64) -> Option<ReportLine>
-    ensures { result ≡ if_numbered said k }
-{
-    match said {
-        Some(line) => { if line.number() == k { Some(line) } else { None } }
-        None => None,
-    }
-}
-
 /// What is found of an original that is said to be written under a map, with the converted record that is next.
 pub fn map_finding(
     alloc: Global,
@@ -128,15 +99,33 @@ pub fn map_finding(
     converted: Option<RecordRead>,
     map: &[AtomId],
 ) -> Result<Finding, NoMemory>
-    ensures { (given : Option (List ℕ)) (next : Option (Option (List ℕ))) → IsReadAs given original.now → AreReadAs next converted
-        → IfOk result (IsMapFinding given next map.now) }
+    ensures { (to : Target) (given : Record) (next : Option Record) → IsReadAs given original.now → AreReadAs next converted
+        → IfOk result (IsMapFinding to given next map.now) }
+{
+    match converted {
+        None => Ok(Finding::Missing),
+        Some(converted) => {
+            let finding = compare(alloc, original, &converted, map)?;
+            Ok(finding)
+        }
+    }
+}
+
+/// The same where there is a converted record.
+fn compare(
+    alloc: Global,
+    original: &RecordRead,
+    converted: &RecordRead,
+    map: &[AtomId],
+) -> Result<Finding, NoMemory>
+    ensures { (to : Target) (given : Record) (next : Record) → IsReadAs given original.now → IsReadAs next converted.now
+        → IfOk result (IsMapFinding to given (Some next) map.now) }
 {
     match (original, converted) {
-        (_, None) => Ok(Finding::Missing),
-        (RecordRead::Refused(_), Some(_)) => Ok(Finding::Input),
-        (RecordRead::Stands(_), Some(RecordRead::Refused(_))) => Ok(Finding::Output),
-        (RecordRead::Stands(input), Some(RecordRead::Stands(output))) => {
-            let verdict = check_map(alloc, input, &output, map)?;
+        (RecordRead::Refused(_), _) => Ok(Finding::Input),
+        (RecordRead::Stands { .. }, RecordRead::Refused(_)) => Ok(Finding::Output),
+        (RecordRead::Stands { mol: input, .. }, RecordRead::Stands { mol: output, .. }) => {
+            let verdict = check_map(alloc, input, output, map)?;
             Ok(Finding::Map(verdict))
         }
     }
@@ -144,7 +133,7 @@ pub fn map_finding(
 
 /// What is found of an original that is said to show a refusal.
 pub fn refusal_finding(original: &RecordRead, refusal: &Refusal) -> Finding
-    ensures { (given : Option (List ℕ)) → IsReadAs given original.now → IsRefusalFinding given refusal.now result }
+    ensures { (to : Target) (given : Record) → IsReadAs given original.now → IsRefusalFinding to given refusal.now result }
 {
     match original {
         RecordRead::Refused(shown) => {
@@ -154,14 +143,14 @@ pub fn refusal_finding(original: &RecordRead, refusal: &Refusal) -> Finding
                 Finding::Refusal
             }
         }
-        RecordRead::Stands(_) => Finding::Refusal,
+        RecordRead::Stands { .. } => Finding::Refusal,
     }
 }
 
 /// Whether a record that shows one refusal shows another: kind and place are its own, and a barrier may be any.
 #[tactic(auto, using(crate::proofs::SameRefusal::not_shown))]
 fn shows_too(shown: &Refusal, said: &Refusal) -> bool
-    ensures { (given : Option (List ℕ)) → Shows given shown.now → IsTrue result ↔ Shows given said.now }
+    ensures { (to : Target) (given : Record) → Shows to given shown.now → IsTrue result ↔ Shows to given said.now }
 {
     are_at_one_place(shown, said) && has_reason(said)
 }
@@ -175,7 +164,7 @@ fn are_at_one_place(first: &Refusal, second: &Refusal) -> bool
 
 /// Whether what is said beside kind and place is right.
 fn has_reason(refusal: &Refusal) -> bool
-    ensures { (given : Option (List ℕ)) → IsTrue result ↔ HasReason (IsBarrierOf given) refusal.now.kind refusal.now.barrier refusal.now.odd }
+    ensures { (to : Target) (given : Record) → IsTrue result ↔ HasReason (IsBarrierOf to given) refusal.now.kind refusal.now.barrier refusal.now.odd }
 {
     match refusal.kind {
         // no record that is read needs a placement yet

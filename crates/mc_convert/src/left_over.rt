@@ -3,11 +3,11 @@ ghost use Rattle.mc_io.specs.Outside.{SameBut};
 ghost use Rattle.mc_io.specs.Lines.{lines_of};
 ghost use Rattle.mc_io.specs.LineReader.{MayGoOn, Reading, ahead};
 ghost use Rattle.mc_convert.specs.Checks.{first};
-ghost use Rattle.mc_convert.specs.LeftOver.{is_end};
 ghost use Rattle.mc_convert.specs.Readers.{HasEnded};
 ghost use Rattle.mc_convert.specs.Records.{records};
 
-use crate::records::{NextLine, next_line, next_record};
+use crate::formats::Origin;
+use crate::records::{next_line, next_record};
 use mc_io::{Lines, ReadStop, Source};
 
 /// Passes what is left of an input.
@@ -24,19 +24,9 @@ fn pass_rest<S: Source>(lines: &mut Lines, source: &mut S) -> Result<(), ReadSto
     ensures others { SameBut lines.old.input (S.inputs source.old) (S.inputs source.new) }
 {
     loop {
-        if next_line(lines, source)? == NextLine::End {
+        if next_line(lines, source)?.is_none() {
             return Ok(());
         }
-    }
-}
-
-fn is_end(next: NextLine) -> bool
-    ensures { result ≡ is_end next }
-{
-    match next {
-        NextLine::Line => false,
-        NextLine::TooLong => false,
-        NextLine::End => true,
     }
 }
 
@@ -56,16 +46,20 @@ pub fn more_lines<S: Source>(lines: &mut Lines, source: &mut S) -> Result<bool, 
 {
     let next = next_line(lines, source)?;
     pass_rest(lines, source)?;
-    Ok(!is_end(next))
+    Ok(next.is_some())
 }
 
 /// Reads an input to its end, and says whether a record was left.
 #[tactic(auto, using(crate::proofs::ReaderSteps::reading_trans, crate::proofs::Rests::stopped_later, crate::proofs::Rests::some_record))]
-pub fn more_records<S: Source>(lines: &mut Lines, source: &mut S) -> Result<bool, ReadStop>
+pub fn more_records<S: Source>(
+    from: Origin,
+    lines: &mut Lines,
+    source: &mut S,
+) -> Result<bool, ReadStop>
     requires goes_on { MayGoOn lines.old.answer }
     requires within { lines.old.taken ≤ S.LIMIT }
 
-    ensures some { IfOk result (λ some. IfSome (ahead lines.old (S.inputs source.old lines.old.input).left) (λ bytes. some ≡ is_some (first (records bytes)))) }
+    ensures some { IfOk result (λ some. IfSome (ahead lines.old (S.inputs source.old lines.old.input).left) (λ bytes. some ≡ is_some (first (records from bytes)))) }
     ensures goes_on { IfOk result (λ _. MayGoOn lines.new.answer) }
     ensures at_end { IfOk result (λ _. IsTrue lines.new.ended) }
     ensures within { IfOk result (λ _. lines.new.taken ≤ S.LIMIT) }
@@ -73,7 +67,7 @@ pub fn more_records<S: Source>(lines: &mut Lines, source: &mut S) -> Result<bool
     ensures stopped { IfErr result (λ stop. HasEnded S.LIMIT (Err stop) lines.new (S.inputs source.old lines.old.input) (S.inputs source.new lines.old.input)) }
     ensures others { SameBut lines.old.input (S.inputs source.old) (S.inputs source.new) }
 {
-    let next = next_record(lines, source)?;
+    let next = next_record(from, lines, source)?;
     pass_rest(lines, source)?;
-    Ok(!is_end(next))
+    Ok(next.is_some())
 }

@@ -8,15 +8,20 @@ mod command;
 mod command_line;
 mod convert;
 mod finding;
+mod formats;
+mod given;
 mod left_over;
 mod names;
 mod record_read;
 mod records;
+mod said;
 mod status;
 
 pub use answer::{Answer, answer_record};
 pub use command::run;
 pub use command_line::{Command, command_of};
+pub use formats::{Formats, Origin, Target};
+pub use given::Given;
 pub use names::{NameList, input_names};
 pub use status::Status;
 

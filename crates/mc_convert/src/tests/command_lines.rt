@@ -1,9 +1,14 @@
 //! The words of each command, with no file and with some.
 
 use crate::tests::{CHECK, CONVERT, gives, words_of};
-use crate::{Command, Status, command_of, input_names};
+use crate::{Command, Formats, Origin, Status, Target, command_of, input_names};
 use std::process::Abort;
 use std::test::Fail;
+
+const SMILES: Formats = Formats {
+    from: Origin::Smi,
+    to: Target::Smi,
+};
 
 /// Whether the words are this command's, or no command's, and name these inputs.
 fn are(
@@ -29,7 +34,7 @@ fn are_none(rt: &(impl Abort + AllocGlobal), texts: &[&str]) -> Result<(), Fail>
 
 #[test]
 fn convert_has_one_file_at_most(rt: HostRuntime) -> Result<(), Fail> {
-    let command = Some(Command::Convert);
+    let command = Some(Command::Convert(SMILES));
     are(
         &rt,
         &["convert", "--from", "smi", "--to", "smi"],
@@ -63,7 +68,7 @@ fn convert_has_one_file_at_most(rt: HostRuntime) -> Result<(), Fail> {
 
 #[test]
 fn check_has_three_files(rt: HostRuntime) -> Result<(), Fail> {
-    let command = Some(Command::Check);
+    let command = Some(Command::Check(SMILES));
     are_none(&rt, &["check", "--from", "smi", "--to", "smi"])?;
     are_none(&rt, &["check", "--from", "smi", "--to", "smi", "a"])?;
     are_none(&rt, &["check", "--from", "smi", "--to", "smi", "a", "b"])?;
@@ -87,7 +92,7 @@ fn check_has_three_files(rt: HostRuntime) -> Result<(), Fail> {
 
 #[test]
 fn a_file_has_a_letter_and_no_dash_in_front(rt: HostRuntime) -> Result<(), Fail> {
-    let command = Some(Command::Convert);
+    let command = Some(Command::Convert(SMILES));
     are(
         &rt,
         &["convert", "--from", "smi", "--to", "smi", "a-"],

@@ -44,6 +44,16 @@ fn are_fronts(sink: &MemorySink) -> bool {
         && (report.len() <= 59 || out.len() >= 5)
 }
 
+/// How many bytes of the outputs answer the records that end in so many bytes of the input.
+fn answered(taken: usize) -> (usize, usize) {
+    match taken {
+        0..=1 => (0, 0),
+        2..=4 => (2, 32),
+        5..=7 => (2, 59),
+        _ => (5, 93),
+    }
+}
+
 /// Fails each read in turn, of so many that are made, and one that isn't.
 fn each_read(rt: &(impl Abort + AllocGlobal), piece: usize, count: u64) -> Result<(), Fail>
     requires { 1 ≤ piece }
@@ -58,7 +68,9 @@ fn each_read(rt: &(impl Abort + AllocGlobal), piece: usize, count: u64) -> Resul
             Status::SomeRefused
         };
         assert!(rt; status == want, "at call {call}");
-        assert!(rt; are_fronts(&sink), "at call {call}");
+        let held = (sink.bytes(0).len(), sink.bytes(1).len());
+        let taken = (call as usize).saturating_sub(1).saturating_mul(piece);
+        assert!(rt; held == answered(taken), "at call {call}");
     }
     Ok(())
 }
@@ -133,6 +145,29 @@ fn an_input_stops_at_the_limit(rt: HostRuntime) -> Result<(), Fail> {
     Ok(())
 }
 
+const FIRST_REPORT: &[u8] = b"1 ok map=1 idle=0 ring=0 data=0\n";
+
+// A record is answered before more is read: the second line is there in part where a read fails or passes the limit.
+#[test]
+fn a_record_that_has_ended_is_answered(rt: HostRuntime) -> Result<(), Fail> {
+    let alloc = rt.alloc();
+    for (piece, call) in [(3usize, 2u64), (1, 5)] {
+        let calls = failing(alloc, piece, Some(call), None)?;
+        let (status, sink) = ran(alloc, &CONVERT, &[b"C\nCC\n"], calls)?;
+        assert!(rt; status == Status::ReadFault, "by {piece}");
+        assert_eq!(rt; sink.bytes(0), b"C\n".as_slice(), "by {piece}");
+        assert_eq!(rt; sink.bytes(1), FIRST_REPORT, "by {piece}");
+    }
+    let inputs = vec![in alloc; b"C\nCC\n".to_vec(alloc)?]?;
+    let mut source: MemorySource<4> = MemorySource::new(inputs, 3, Vec::new(alloc));
+    let mut sink = MemorySink::new(alloc, 100, 5, Vec::new(alloc))?;
+    let status = run(alloc, &words_of(alloc, &CONVERT)?, &mut source, &mut sink);
+    assert!(rt; status == Status::InputLimit);
+    assert_eq!(rt; sink.bytes(0), b"C\n".as_slice());
+    assert_eq!(rt; sink.bytes(1), FIRST_REPORT);
+    Ok(())
+}
+
 // ---- check
 
 /// The status of a check whose calls go so, and how much of its text is written.
@@ -154,7 +189,8 @@ fn checked(
 
 const TRUE: &[u8] = b"1 true\n2 true\n3 true\n";
 
-// In large pieces each input takes one read and one for its end: originals, report and converted records.
+// In large pieces each input takes one read: originals, report and converted records. Then each takes one for its end,
+// the originals first; behind that the verdicts are written, and the other two are read to their ends.
 #[test]
 fn each_read_of_check(rt: HostRuntime) -> Result<(), Fail> {
     let alloc = rt.alloc();
@@ -168,7 +204,7 @@ fn each_read_of_check(rt: HostRuntime) -> Result<(), Fail> {
         };
         assert!(&rt; status == want, "at call {call}");
         assert!(&rt;
-            held == if call < 7 { 0 } else { TRUE.len() },
+            held == if call <= 4 { 0 } else { TRUE.len() },
             "at call {call}"
         );
     }

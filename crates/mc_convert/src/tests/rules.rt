@@ -173,9 +173,31 @@ fn wrong_tokens(rt: HostRuntime) -> Result<(), Fail> {
             ("C*", "Wildcard place=2"),
             ("F[C@TB1]", "OtherChirality place=2"),
             // what isn't read yet
-            ("c1ccccc1", "NotBuilt place=1"),
             ("F/C=C/F", "NotBuilt place=1"),
             ("N[C@](F)(Cl)Br", "NotBuilt place=1"),
+        ],
+    )
+}
+
+#[test]
+fn lower_case(rt: HostRuntime) -> Result<(), Fail> {
+    are_written(
+        &rt,
+        &[
+            ("c1(=O)c(=O)c1=O", "C1(=O)C(=O)C1=O", "1,2,3,4,5,6"),
+            ("o1oo1", "O1OO1", "1,2,3"),
+            ("[nH]1[nH][nH]1", "N1NN1", "1,2,3"),
+            ("[cH2]1:[cH2]:s:1", "C1CS1", "1,2,3"),
+            ("[se]1[se][se]1", "[Se]1[Se][Se]1", "1,2,3"),
+        ],
+    )?;
+    are_refused(
+        &rt,
+        &[
+            ("C:C", "AromaticBond place=1"),
+            // an atom that needs a double bond has none placed yet
+            ("c1ccccc1", "NotBuilt place=1"),
+            ("[se]1cccc1", "NotBuilt place=1"),
         ],
     )
 }

@@ -1,7 +1,7 @@
 use Rattle.std.proofs.Common.{arith, ◌<◌, ◌^◌, ◌-◌, List, subst, sym}
 use Rattle.std.specs.Prelude.{All}
 use Rattle.mc_base.specs.declared.ids.AtomId.{AtomId}
-use Rattle.mc_convert.proofs.answer.accepted.Goals as goal
+use Rattle.mc_convert.proofs.answer.smiles.Goals as goal
 
 pub put_ok-requires-clause-atoms : goal.put_ok-requires-clause-atoms
 put_ok-requires-clause-atoms c =
