@@ -6,7 +6,11 @@ without stereo, is left out. It needs RDKit (Debian: python3-rdkit)."""
 
 import argparse
 
-from rdkit import Chem, RDLogger
+try:
+    from rdkit import Chem, RDLogger
+except ImportError:
+    print("skipped: RDKit isn't installed (Debian: python3-rdkit)")
+    raise SystemExit(0) from None
 
 
 def records(path):
