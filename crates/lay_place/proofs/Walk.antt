@@ -10,7 +10,7 @@ use Rattle.mc_mol.proofs.Halves.{same_test}
 use Rattle.mc_rings.specs.Rings.{RingList}
 use Rattle.mc_rings.specs.BlockOrder.{IsBlockOrder, EndOfBlock, Above, times}
 use Rattle.mc_rings.specs.RingSizes.{RingSizeIs}
-use Rattle.mc_mol.proofs.Apart.{joins_cases}
+use Rattle.mc_mol.proofs.Apart.{joins_cases, joins_touches}
 use Rattle.ct_geometry.specs.Drawn.{IsOther}
 use Rattle.lay_place.specs.Wanted.{MayBePlaced, FreeDouble}
 use Rattle.lay_place.specs.Walk.{IsBefore, IsLastEnd, IsLastSide}
@@ -18,9 +18,6 @@ use Rattle.lay_place.proofs.Neighbours.{bond_at, joins_back, joins_apart, across
 use Rattle.ct_geometry.proofs.Counted.{two_yes}
 use Rattle.lay_place.proofs.Wanted.{turned_ends, ends_differ}
 use Rattle.lay_place.proofs.Ends.{asks_once}
-
-touching : (bond : Bond) (u w : ℕ) → joins bond u w ≡ true → touches bond u ≡ true
-touching bond u w e = grind (arith, nat_tests)
 
 pub one_far : (bond : Bond) (v u w : ℕ) → bond.first.0 ≢ bond.second.0 → joins bond v u ≡ true → joins bond v w ≡ true → u ≡ w
 one_far bond v u w different e f = by (joins_cases bond v u e) (joins_cases bond v w f)
@@ -70,7 +67,7 @@ module _ (m : Molecule) (rings : RingList) (may : MayBePlaced m rings) where
       (get_or rings.blocks j 0, slice_get-get_or rings.blocks j 0 (omega arith))
 
   end_of : (j : ℕ) (b : Bond) (u w block : ℕ) → slice_get m.bonds j ≡ Some b → slice_get rings.blocks j ≡ Some block → joins b u w ≡ true → EndOfBlock m.bonds rings.blocks block u
-  end_of j b u w block at in_block e = record { number = j; bond = b; is_bond = at; in_block = in_block; touched = touching b u w e }
+  end_of j b u w block at in_block e = record { number = j; bond = b; is_bond = at; in_block = in_block; touched = joins_touches b u w e }
 
   one_above : (x b c : ℕ) → Above rings.above x b → Above rings.above x c → b ≡ c
   one_above x b c p q = same_Some b c (same_Some (Some b) (Some c) (sym p ∙ q))

@@ -21,16 +21,7 @@ use Rattle.mc_mol.proofs.Neighbours.{joined_ends}
 use Rattle.ct_geometry.proofs.Usable.{joined_of}
 use Rattle.lay_wedge.specs.Fitting.{CentreFits, are_different, leads_to, may_be_list}
 use Rattle.lay_wedge.specs.Plans.{HasSoundCentres}
-
-same_self : (p : Slot) → same_slot p p ≡ true
-same_self (At a) = grind (arith, nat_tests)
-same_self Rest = refl
-
-same_is : (p q : Slot) → same_slot p q ≡ true → p ≡ q
-same_is (At a) (At b) e = (let h : a.0 ≡ b.0 = grind (arith, nat_tests) in ap (λ (n : ℕ). At (record { 0 = n })) h)
-same_is Rest Rest e = refl
-same_is (At a) Rest e = cc
-same_is Rest (At b) e = cc
+use Rattle.mc_mol.proofs.Slots.{same_is, same_self}
 
 at_number : (a : AtomId) (v : ℕ) → a.0 ≡ v → At a ≡ At (record { 0 = v })
 at_number a v e = ap (λ (n : ℕ). At (record { 0 = n })) e

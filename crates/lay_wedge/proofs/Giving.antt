@@ -13,7 +13,7 @@ use Rattle.mc_mol.specs.declared.parts.Slot.{Slot}
 use Rattle.mc_mol.specs.Molecule.{Molecule, joins, touches}
 use Rattle.mc_mol.specs.HalfEdges.{half_edges}
 use Rattle.mc_mol.specs.Permutations.{is_even_permutation}
-use Rattle.mc_mol.proofs.Apart.{bonds_rise}
+use Rattle.mc_mol.proofs.Apart.{bonds_rise, joins_touches}
 use Rattle.mc_mol.proofs.Lists.{slice_get-slice_set, length-slice_set}
 use Rattle.mc_mol.proofs.Twins.{all_have_twins}
 use Rattle.mc_rings.specs.Centres.{has_order, order_is}
@@ -44,9 +44,6 @@ bonds_differ m b i j g h ne at_g at_h e = elim (cases_lt i j) [
 -- the bond of a half-edge joins its two atoms, and no third
 joins_other : (bond : Bond) (a b c d : ℕ) → joins bond a b ≡ true → joins bond c d ≡ true → (c ≡ a) ⊎ (c ≡ b)
 joins_other bond a b c d e f = grind (arith, nat_tests)
-
-joins_touches : (bond : Bond) (a b : ℕ) → joins bond a b ≡ true → touches bond a ≡ true
-joins_touches bond a b e = grind (arith, nat_tests)
 
 order_one : (bonds : List Bond) (k : ℕ) (bond : Bond) → has_order bonds k 1 ≡ true → slice_get bonds k ≡ Some bond → bond.order ≡ 1
 order_one bonds k bond test at = let e : (bond.order == 1) ≡ true = ap (λ o. order_is o 1) (sym at) ∙ test in grind (arith, nat_tests)

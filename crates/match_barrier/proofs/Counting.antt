@@ -1,7 +1,7 @@
 -- Counts of the numbers below a bound that pass a test.
 use Rattle.std.proofs.Common.{◌≡◌, ◌≢◌, ℕ, zero, suc, ◌≤◌, ◌<◌, List, [], ◌∷◌, length, Bool, true, false, refl, ap, sym, ◌∙◌, inl, inr, arith, subst}
 use Rattle.std.specs.Prelude.{◌==◌, not, ◌&&◌, ◌||◌, ◌⊎◌}
-use Rattle.std.proofs.lemmas.Bool.{cases_eq, false≢true}
+use Rattle.std.proofs.lemmas.Bool.{cases_eq, false≢true, eqb-true, cases_Bool, and_parts}
 use Rattle.std.proofs.lemmas.Bool.Decides.{nat_tests}
 use Rattle.match_barrier.specs.Graph.{has}
 use Rattle.match_barrier.specs.Barrier.{one_if, count, is_odd}
@@ -12,26 +12,9 @@ test_same a b h = grind (arith, nat_tests)
 pub test_other : (a b : ℕ) → a ≢ b → (a == b) ≡ false
 test_other a b h = grind (arith, nat_tests)
 
-pub same_of_test : (a b : ℕ) → (a == b) ≡ true → a ≡ b
-same_of_test a b h = grind (arith, nat_tests)
-
-pub either : (b : Bool) → (b ≡ true) ⊎ (b ≡ false)
-either true = inl refl
-either false = inr refl
-
-pub both_true : (a b : Bool) → (a && b) ≡ true → (a ≡ true) × (b ≡ true)
-both_true true b h = (refl, h)
-both_true false b h = absurd (false≢true h)
-
-pub true_both : (a b : Bool) → a ≡ true → b ≡ true → (a && b) ≡ true
-true_both a b ha hb = rw (ha, hb) refl
-
 pub not_true_is : (b : Bool) → not b ≡ true → b ≡ false
 not_true_is true h = absurd (false≢true h)
 not_true_is false h = refl
-
-pub not_false_is : (b : Bool) → b ≡ false → not b ≡ true
-not_false_is b h = rw h refl
 
 -- tests that agree below n count alike
 pub count_same : (n : ℕ) (p q : ℕ → Bool) → ((i : ℕ) → i < n → p i ≡ q i) → count n p ≡ count n q
@@ -100,11 +83,11 @@ pub has_cases : (y : ℕ) (xs : List ℕ) (x : ℕ) → has (y ∷ xs) x ≡ tru
 has_cases y xs x h = by (y == x) refl h
   where
     by : (b : Bool) → (y == x) ≡ b → (b || has xs x) ≡ true → (y ≡ x) ⊎ (has xs x ≡ true)
-    by true is h = inl (same_of_test y x is)
+    by true is h = inl (eqb-true y x is)
     by false is h = inr h
 
 pub but_is : (p : ℕ → Bool) (w i : ℕ) → but p w i ≡ true → (p i ≡ true) × (i ≢ w)
-but_is p w i h = let both = both_true (p i) (not (i == w)) h in (both.0, λ e. false≢true (sym (but_same p w i e) ∙ h))
+but_is p w i h = let both = and_parts (p i) (not (i == w)) h in (both.0, λ e. false≢true (sym (but_same p w i e) ∙ h))
 
 -- Pigeonhole: where each number that passes is the image of a member of the list, the list is at least as long.
 pub covered : (xs : List ℕ) (image : ℕ → ℕ) (n : ℕ) (p : ℕ → Bool) → ((i : ℕ) → i < n → p i ≡ true → (x : ℕ) × (has xs x ≡ true) × (image x ≡ i)) → count n p ≤ length xs
@@ -128,7 +111,7 @@ pub search_below : (n : ℕ) (p : ℕ → Bool) → ((i : ℕ) × (i < n) × (p 
 search_below zero p = inr (λ i less. absurd (omega arith))
 search_below (suc n) p = elim (search_below n p) [
   | inl found ↦ inl (found.0, omega arith, found.2)
-  | inr none ↦ elim (either (p n)) [
+  | inr none ↦ elim (cases_Bool (p n)) [
     | inl holds ↦ inl (n, omega arith, holds)
     | inr no' ↦ inr (λ i less. elim (cases_eq i n) [
       | inl same ↦ subst (λ (x : ℕ). p x ≡ false) (sym same) no'
@@ -146,7 +129,7 @@ pub record PairedOff (n : ℕ) (p : ℕ → Bool) (mate : ℕ → ℕ) : Type 0 
 
 pub paired_even : (n : ℕ) (p : ℕ → Bool) (mate : ℕ → ℕ) → PairedOff n p mate → is_odd (count n p) ≡ false
 paired_even zero p mate paired = refl
-paired_even (suc n) p mate paired = elim (either (p n)) [
+paired_even (suc n) p mate paired = elim (cases_Bool (p n)) [
   | inr not_last ↦
       let same : count (suc n) p ≡ count n p = let k : one_if (p n) ≡ 0 = ap one_if not_last in omega arith in
       ap is_odd same ∙ paired_even n p mate (record {

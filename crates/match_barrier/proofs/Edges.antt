@@ -2,7 +2,7 @@
 use Rattle.std.proofs.Common.{◌≡◌, ◌≢◌, ℕ, zero, suc, ◌<◌, List, [], ◌∷◌, ◌++◌, length, get_or, set, map, take, replicate, Bool, true, false, refl, ap, sym, ◌∙◌, inl, inr, arith, subst}
 use Rattle.std.specs.Prelude.{Result, Ok, Err, OnOk, OnErr, ◌↔◌, ◌==◌, ◌||◌, ◌⊎◌}
 use Rattle.std.specs.List.{All}
-use Rattle.std.proofs.lemmas.Bool.{cases_eq, false≢true}
+use Rattle.std.proofs.lemmas.Bool.{cases_eq, false≢true, false_from_ne_true}
 use Rattle.std.proofs.lemmas.List.{get_or-set_same, get_or-set_other, length-set, map-set, length-map, set-get_or, set-set, take_at}
 use Rattle.std.proofs.lemmas.List.Folds.{list_any_at}
 use Rattle.match_barrier.specs.Graph.{has, neighbours_of, adjacent, NoRepeats, IsGraph, IsEdge, with_edge}
@@ -45,10 +45,6 @@ has_push_cases (z ∷ xs) y x h = elim (has_cases z (xs ++ y ∷ []) x h) [
   ]
 ]
 
-pub not_true_false : (b : Bool) → (b ≡ true → ⊥) → b ≡ false
-not_true_false true h = absurd (h refl)
-not_true_false false h = refl
-
 pub same_bools : (a b : Bool) → (a ≡ true → b ≡ true) → (b ≡ true → a ≡ true) → a ≡ b
 same_bools true b there back = sym (there refl)
 same_bools false true there back = back refl
@@ -57,11 +53,11 @@ same_bools false false there back = refl
 pub no_repeats_push : (xs : List ℕ) (y : ℕ) → NoRepeats xs → has xs y ≡ false → NoRepeats (xs ++ y ∷ [])
 no_repeats_push [] y none new = (refl, tt)
 no_repeats_push (x ∷ xs) y none new = (
-  not_true_false (has (xs ++ y ∷ []) x) (λ h. elim (has_push_cases xs y x h) [
+  false_from_ne_true (has (xs ++ y ∷ []) x) (λ h. elim (has_push_cases xs y x h) [
     | inl old ↦ false≢true (sym none.0 ∙ old)
     | inr same ↦ false≢true (sym new ∙ has_front x xs y (sym same))
   ]),
-  no_repeats_push xs y none.1 (not_true_false (has xs y) (λ h. false≢true (sym new ∙ has_rest x xs y h))),
+  no_repeats_push xs y none.1 (false_from_ne_true (has xs y) (λ h. false≢true (sym new ∙ has_rest x xs y h))),
 )
 
 no_row : (n u : ℕ) → get_or {A = List ℕ} (replicate n []) u [] ≡ []
@@ -145,7 +141,7 @@ more_edge g u v is lu lv ne new =
       symmetric = λ a b. same_bools (adjacent (with_edge g u v) a b) (adjacent (with_edge g u v) b a)
           (λ h. edge_of g u v b a lu lv ne (turned g u v a b is (new_edge g u v a b lu lv ne h)))
           (λ h. edge_of g u v a b lu lv ne (turned g u v b a is (new_edge g u v b a lu lv ne h)));
-      loop_free = λ a. not_true_false (adjacent (with_edge g u v) a a) (λ h. no_loop a (new_edge g u v a a lu lv ne h));
+      loop_free = λ a. false_from_ne_true (adjacent (with_edge g u v) a a) (λ h. no_loop a (new_edge g u v a a lu lv ne h));
       no_repeats = λ a. elim (cases_eq a u) [
         | inl first ↦ subst (λ (x : ℕ). NoRepeats (neighbours_of (with_edge g u v) x)) (sym first) (subst NoRepeats (sym (row_first g u v lu ne)) (no_repeats_push (neighbours_of g u) v (is.no_repeats u) new))
         | inr nu ↦ elim (cases_eq a v) [

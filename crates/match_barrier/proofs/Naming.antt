@@ -3,16 +3,16 @@ use Rattle.std.proofs.Common.{◌≡◌, ℕ, zero, suc, ◌+◌, ◌≤◌, ◌
 use Rattle.std.specs.Prelude.{cond, nat_lt, ◌==◌, not, ◌&&◌, ◌||◌}
 use Rattle.std.specs.List.{sum, list_any}
 use Rattle.std.proofs.lemmas.Bool.Decides.{nat_tests}
-use Rattle.std.proofs.lemmas.Bool.{cases_eq, false≢true}
+use Rattle.std.proofs.lemmas.Bool.{cases_eq, false≢true, cases_Bool, and_parts, false_from_ne_true}
 use Rattle.std.proofs.lemmas.List.{get_or-set_same, get_or-set_other, length-set, length_push, get_or_push, get_or_append_left}
 use Rattle.std.proofs.lemmas.List.Sums.{sum_by-set}
 use Rattle.std.proofs.lemmas.List.Folds.{list_any_more, list_any_at}
 use Rattle.match_barrier.specs.Graph.{has, neighbours_of, adjacent, IsGraph}
 use Rattle.match_barrier.specs.Barrier.{IsLeft, Joined, NamesParts, OddParts, one_if, count, is_odd, is_member, names_odd_part}
 use Rattle.match_barrier.specs.Labels.{Labels, IsSettled, size_of_label, is_odd_label}
-use Rattle.match_barrier.proofs.Counting.{test_same, test_other, has_cases, either, count_same, one_if_le, both_true, search_below}
+use Rattle.match_barrier.proofs.Counting.{test_same, test_other, has_cases, count_same, one_if_le, search_below}
 use Rattle.match_barrier.proofs.Walks.{joined_self, joined_trans, joined_step, names_of_labels}
-use Rattle.match_barrier.proofs.Edges.{has_front, has_rest, not_true_false}
+use Rattle.match_barrier.proofs.Edges.{has_front, has_rest}
 
 pub count_more : (n : ℕ) (p : ℕ → Bool) → count (n + 1) p ≡ count n p + one_if (p n)
 count_more n p = rw add-one refl
@@ -65,7 +65,7 @@ first_labels g s labels long is = record {
 
 -- A lower label from a neighbour.
 pub is_left_of : (g : List (List ℕ)) (s : List ℕ) (labels : List ℕ) → Labels g s labels → (v : ℕ) → v < length g → get_or labels v 0 < length g → IsLeft g s v
-is_left_of g s labels l v less low = (less, not_true_false (has s v) (λ h. let e = l.taken v less h in omega arith))
+is_left_of g s labels l v less low = (less, false_from_ne_true (has s v) (λ h. let e = l.taken v less h in omega arith))
 
 -- A label falls to that of a neighbour.
 pub lower_label : (g : List (List ℕ)) (s : List ℕ) (labels : List ℕ) (v w : ℕ) → IsGraph g → adjacent g v w ≡ true → get_or labels w 0 < length g → get_or labels v 0 < get_or labels w 0
@@ -105,7 +105,7 @@ names_parts g s labels is l settled = names_of_labels g s (λ v. get_or labels v
     low v left = let b = l.below v left in let c = left.0 in omega arith
 
 member_of_label : (g : List (List ℕ)) (s : List ℕ) (labels : List ℕ) → Labels g s labels → (r v : ℕ) → r < length g → v < length g → (get_or labels v 0 == r) ≡ is_member s (λ v. get_or labels v 0) r v
-member_of_label g s labels l r v below less = elim (either (has s v)) [
+member_of_label g s labels l r v below less = elim (cases_Bool (has s v)) [
   | inl taken ↦ test_other (get_or labels v 0) r (λ e. let t = l.taken v less taken in absurd (omega arith)) ∙ sym (ap (λ (b : Bool). not b && (get_or labels v 0 == r)) taken)
   | inr out ↦ sym (ap (λ (b : Bool). not b && (get_or labels v 0 == r)) out)
 ]
@@ -143,7 +143,7 @@ settle_labels g s is (suc fuel) labels l less = elim (search_below (length g) (�
   | inr none ↦ record {
     labels = labels;
     right = l;
-    settled = λ v below low w edge low_w. elim (either (worse labels (length g) v w)) [
+    settled = λ v below low w edge low_w. elim (cases_Bool (worse labels (length g) v w)) [
       | inl bad ↦ absurd (false≢true (sym (none v below) ∙ any_of (λ x. worse labels (length g) v x) (neighbours_of g v) w edge bad))
       | inr fine ↦ lt_false (get_or labels v 0) (get_or labels w 0) (and_no (nat_lt (get_or labels w 0) (length g)) (nat_lt (get_or labels v 0) (get_or labels w 0)) (let t : nat_lt (get_or labels w 0) (length g) ≡ true = grind (arith, nat_tests) in t) fine)
     ];
@@ -151,7 +151,7 @@ settle_labels g s is (suc fuel) labels l less = elim (search_below (length g) (�
   | inl found ↦
       let v : ℕ = found.0 in
       let (w, edge, bad) = which (λ x. worse labels (length g) v x) (neighbours_of g v) found.2 in
-      let both = both_true (nat_lt (get_or labels w 0) (length g)) (nat_lt (get_or labels v 0) (get_or labels w 0)) bad in
+      let both = and_parts (nat_lt (get_or labels w 0) (length g)) (nat_lt (get_or labels v 0) (get_or labels w 0)) bad in
       let low = lt_true (get_or labels w 0) (length g) both.0 in
       let lower = lt_true (get_or labels v 0) (get_or labels w 0) both.1 in
       let within_w : w < length labels = let long = l.each_node in let b = is.in_range v w edge in omega arith in
@@ -168,7 +168,7 @@ settle_labels g s is (suc fuel) labels l less = elim (search_below (length g) (�
 
     which : (test : ℕ → Bool) (xs : List ℕ) → list_any test xs ≡ true → (w : ℕ) × (has xs w ≡ true) × (test w ≡ true)
     which test [] h = absurd (false≢true h)
-    which test (x ∷ xs) h = elim (either (test x)) [
+    which test (x ∷ xs) h = elim (cases_Bool (test x)) [
       | inl passes ↦ (x, has_front x xs x refl, passes)
       | inr fails ↦ let (w, in', passes) = which test xs (sym (ap (λ (b : Bool). b || list_any test xs) fails) ∙ h) in (w, has_rest x xs w in', passes)
     ]

@@ -1,18 +1,18 @@
 -- A barrier excludes a perfect matching.
 use Rattle.std.proofs.Common.{◌≡◌, ℕ, ◌≤◌, ◌<◌, List, length, get_or, Bool, true, false, refl, ap, sym, ◌∙◌, inl, inr, arith, subst}
 use Rattle.std.specs.Prelude.{◌==◌, not, ◌&&◌}
-use Rattle.std.proofs.lemmas.Bool.{false≢true}
+use Rattle.std.proofs.lemmas.Bool.{false≢true, eqb-true, cases_Bool, and_parts, and_from, not_from_false}
 use Rattle.match_barrier.specs.Graph.{has, adjacent, IsGraph}
 use Rattle.match_barrier.specs.Matching.{IsPerfect}
 use Rattle.match_barrier.specs.Barrier.{NamesParts, count, is_odd, is_member, names_odd_part, OddParts, IsBarrier}
-use Rattle.match_barrier.proofs.Counting.{either, both_true, true_both, not_true_is, not_false_is, same_of_test, test_same, covered, count_same, search_below, paired_even}
+use Rattle.match_barrier.proofs.Counting.{not_true_is, test_same, covered, count_same, search_below, paired_even}
 use Rattle.match_barrier.proofs.Walks.{joined_step, same_name, one_naming}
 
 pub member_is : (s : List ℕ) (name : ℕ → ℕ) (r v : ℕ) → is_member s name r v ≡ true → (has s v ≡ false) × (name v ≡ r)
-member_is s name r v h = let both = both_true (not (has s v)) (name v == r) h in (not_true_is (has s v) both.0, same_of_test (name v) r both.1)
+member_is s name r v h = let both = and_parts (not (has s v)) (name v == r) h in (not_true_is (has s v) both.0, eqb-true (name v) r both.1)
 
 pub is_member_of : (s : List ℕ) (name : ℕ → ℕ) (r v : ℕ) → has s v ≡ false → name v ≡ r → is_member s name r v ≡ true
-is_member_of s name r v out is = true_both (not (has s v)) (name v == r) (not_false_is (has s v) out) (test_same (name v) r is)
+is_member_of s name r v out is = and_from (not (has s v)) (name v == r) (not_from_false (has s v) out) (test_same (name v) r is)
 
 odd_leaves : (g : List (List ℕ)) (s : List ℕ) (name : ℕ → ℕ) (mates : List ℕ) → IsGraph g → NamesParts g s name → IsPerfect g mates
     → (r : ℕ) → names_odd_part g s name r ≡ true → (v : ℕ) × (v < length g) × (is_member s name r v ≡ true) × (has s (get_or mates v 0) ≡ true)
@@ -21,13 +21,13 @@ odd_leaves g s name mates is names perfect r odd =
     let mate : ℕ → ℕ = λ v. get_or mates v 0 in
     let p : ℕ → Bool = is_member s name r in
     elim (search_below n (λ v. p v && has s (mate v))) [
-      | inl found ↦ let both = both_true (p found.0) (has s (mate found.0)) found.2 in (found.0, found.1, both.0, both.1)
+      | inl found ↦ let both = and_parts (p found.0) (has s (mate found.0)) found.2 in (found.0, found.1, both.0, both.1)
       | inr none ↦ absurd (false≢true (sym (paired_even n p mate (record {
         below = λ v less holds. is.in_range v (mate v) (perfect.neighbour v less);
         passes = λ v less holds. stays v less holds (none v less);
         another = λ v less holds. λ e. false≢true (sym (is.loop_free v) ∙ subst (λ (x : ℕ). adjacent g v x ≡ true) e (perfect.neighbour v less));
         back = λ v less holds. perfect.back v less;
-      })) ∙ (both_true (p r) (is_odd (count n p)) odd).1))
+      })) ∙ (and_parts (p r) (is_odd (count n p)) odd).1))
     ]
   where
     and_false : (a b : Bool) → a ≡ true → (a && b) ≡ false → b ≡ false
@@ -69,7 +69,7 @@ one_number g s odd odd' parts parts' =
     ap2 h k = rw (h, k) refl
 
     member_same : (g : List (List ℕ)) (s : List ℕ) (name name' : ℕ → ℕ) → NamesParts g s name → NamesParts g s name' → (r v : ℕ) → v < length g → is_member s name r v ≡ is_member s name' r v
-    member_same g s name name' names names' r v below = elim (either (has s v)) [
+    member_same g s name name' names names' r v below = elim (cases_Bool (has s v)) [
       | inl holds ↦ rw (holds) refl
       | inr out ↦ ap (λ (x : ℕ). not (has s v) && (x == r)) (one_naming g s name name' names names' v (below, out))
     ]

@@ -1,2 +1,3 @@
 pub mod AllKinds
+pub mod NamesApart
 pub mod Digits

@@ -161,6 +161,7 @@ impl Kind {
     /// The kind of a name.
     pub fn of_name(name: &[u8]) -> Option<Kind>
         ensures found { IfSome result (λ kind. kind_name kind ≡ name.now) }
+        ensures only { (kind : Kind) → kind_name kind ≡ name.now → result ≡ Some kind }
         ensures none { IfNone result ((kind : Kind) → kind_name kind ≡ name.now → ⊥) }
     {
         for kind in &ALL {

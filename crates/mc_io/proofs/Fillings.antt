@@ -66,7 +66,7 @@ read_fills a b x y going reads = record {
 }
 
 -- a failed read
-missed_fills : (a b : Buffered) (x y : Input) → a.ended ≡ false → b ≡ record a { room = b.room } → Takes x y [] → Fills a b x y []
+pub missed_fills : (a b : Buffered) (x y : Input) → a.ended ≡ false → b ≡ record a { room = b.room } → Takes x y [] → Fills a b x y []
 missed_fills a b x y going kept takes = record {
   takes = takes;
   input = ap (λ (k : Buffered). k.input) kept;

@@ -2,11 +2,8 @@
 use Rattle.std.proofs.Common.{arith, ◌≡◌, ◌∙◌, ℕ, ◌<◌, ◌==◌, ◌||◌, Bool, true, false, if◌then◌else◌, List, [], ◌∷◌, ◌++◌, length, map, refl, ap, sym}
 use Rattle.std.proofs.lemmas.List.{append_assoc, append-nil}
 use Rattle.std.proofs.lemmas.List.Folds.{list_any-append}
+use Rattle.std.proofs.lemmas.Bool.{or_parts}
 use Rattle.mc_io.specs.Lines.{line_feed, onto_first, onto_ended, pieces, ended_pieces, ended_lines, line_of, lines_of, has_feed}
-
-neither : (p q : Bool) → (p || q) ≡ false → (p ≡ false) × (q ≡ false)
-neither true q e = absurd cc
-neither false q e = (refl, e)
 
 -- ---- line feeds in joined bytes
 
@@ -14,19 +11,19 @@ pub clear_both : (front back : List ℕ) → has_feed front ≡ false → has_fe
 clear_both front back p q = list_any-append (λ b. b == line_feed) front back ∙ rw (p, q) refl
 
 pub clear_parts : (front back : List ℕ) → has_feed (front ++ back) ≡ false → (has_feed front ≡ false) × (has_feed back ≡ false)
-clear_parts front back clear = neither (has_feed front) (has_feed back) (sym (list_any-append (λ b. b == line_feed) front back) ∙ clear)
+clear_parts front back clear = or_parts (has_feed front) (has_feed back) (sym (list_any-append (λ b. b == line_feed) front back) ∙ clear)
 
 -- ---- the first piece
 
 pub first_piece : (piece rest : List ℕ) → has_feed piece ≡ false → pieces (piece ++ line_feed ∷ rest) ≡ piece ∷ pieces rest
 first_piece [] rest clear = refl
-first_piece (b ∷ piece) rest clear = let both = neither (b == line_feed) (has_feed piece) clear in rw (both.0, first_piece piece rest both.1) refl
+first_piece (b ∷ piece) rest clear = let both = or_parts (b == line_feed) (has_feed piece) clear in rw (both.0, first_piece piece rest both.1) refl
 
 pub last_piece : (piece : List ℕ) → has_feed piece ≡ false → 0 < length piece → pieces piece ≡ piece ∷ []
 last_piece [] clear some = absurd (omega arith)
-last_piece (b ∷ []) clear some = let both = neither (b == line_feed) false clear in rw both.0 refl
+last_piece (b ∷ []) clear some = let both = or_parts (b == line_feed) false clear in rw both.0 refl
 last_piece (b ∷ c ∷ piece) clear some =
-    let both = neither (b == line_feed) (has_feed (c ∷ piece)) clear in rw (both.0, last_piece (c ∷ piece) both.1 (omega arith)) refl
+    let both = or_parts (b == line_feed) (has_feed (c ∷ piece)) clear in rw (both.0, last_piece (c ∷ piece) both.1 (omega arith)) refl
 
 pub first_line : (piece rest : List ℕ) → has_feed piece ≡ false → lines_of (piece ++ line_feed ∷ rest) ≡ line_of piece ∷ lines_of rest
 first_line piece rest clear = ap (map line_of) (first_piece piece rest clear)
@@ -38,14 +35,14 @@ last_line piece clear some = ap (map line_of) (last_piece piece clear some)
 
 pub first_ended : (piece rest : List ℕ) → has_feed piece ≡ false → ended_pieces (piece ++ line_feed ∷ rest) ≡ piece ∷ ended_pieces rest
 first_ended [] rest clear = refl
-first_ended (b ∷ piece) rest clear = let both = neither (b == line_feed) (has_feed piece) clear in rw (both.0, first_ended piece rest both.1) refl
+first_ended (b ∷ piece) rest clear = let both = or_parts (b == line_feed) (has_feed piece) clear in rw (both.0, first_ended piece rest both.1) refl
 
 pub first_ended_line : (piece rest : List ℕ) → has_feed piece ≡ false → ended_lines (piece ++ line_feed ∷ rest) ≡ line_of piece ∷ ended_lines rest
 first_ended_line piece rest clear = ap (map line_of) (first_ended piece rest clear)
 
 none_ended : (piece : List ℕ) → has_feed piece ≡ false → ended_pieces piece ≡ []
 none_ended [] clear = refl
-none_ended (b ∷ piece) clear = let both = neither (b == line_feed) (has_feed piece) clear in rw (both.0, none_ended piece both.1) refl
+none_ended (b ∷ piece) clear = let both = or_parts (b == line_feed) (has_feed piece) clear in rw (both.0, none_ended piece both.1) refl
 
 pub no_ended_line : (piece : List ℕ) → has_feed piece ≡ false → ended_lines piece ≡ []
 no_ended_line piece clear = ap (map line_of) (none_ended piece clear)

@@ -2,17 +2,14 @@
 use Rattle.std.proofs.Common.{arith, ◌≡◌, ◌∙◌, ◌==◌, ◌||◌, ◌&&◌, ◌≤◌, nat_lt, ℕ, Bool, true, false, not, if◌then◌else◌, List, [], ◌∷◌, length, Option, Some, None, refl, ap, sym, subst}
 use Rattle.std.specs.List.{list_all}
 use Rattle.std.proofs.lemmas.Bool.Decides.{nat_tests}
+use Rattle.std.proofs.lemmas.Bool.{or_parts}
 use Rattle.mc_io.specs.Lines.{line_feed, carriage_return, onto_text, text_of, most_bytes, is_long, line_of, has_feed, IsLineText}
 use Rattle.mc_io.proofs.Cutting.{some_text, text_len_le}
-
-neither : (p q : Bool) → (p || q) ≡ false → (p ≡ false) × (q ≡ false)
-neither true q e = absurd cc
-neither false q e = (refl, e)
 
 -- no line feed comes in where carriage returns are dropped
 no_feed : (piece : List ℕ) → has_feed piece ≡ false → has_feed (text_of piece) ≡ false
 no_feed [] clear = refl
-no_feed (b ∷ piece) clear = let both = neither (b == line_feed) (has_feed piece) clear in onto b (text_of piece) both.0 (no_feed piece both.1)
+no_feed (b ∷ piece) clear = let both = or_parts (b == line_feed) (has_feed piece) clear in onto b (text_of piece) both.0 (no_feed piece both.1)
   where
     onto : (b : ℕ) (text : List ℕ) → (b == line_feed) ≡ false → has_feed text ≡ false → has_feed (onto_text b text) ≡ false
     onto b [] other clear = elim (b == carriage_return) as (λ t. has_feed (if t then [] else b ∷ []) ≡ false) [ true ↦ refl | false ↦ rw other refl ]

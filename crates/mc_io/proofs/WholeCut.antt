@@ -1,10 +1,8 @@
 -- Pieces and texts, said of the whole.
 use Rattle.std.proofs.Common.{arith, ◌≡◌, ◌∙◌, ◌==◌, ◌||◌, inl, inr, ℕ, suc, Bool, true, false, if◌then◌else◌, List, [], ◌∷◌, ◌++◌, length, refl, ap, sym, subst}
 use Rattle.std.proofs.lemmas.Bool.Decides.{nat_tests}
+use Rattle.std.proofs.lemmas.Bool.{eqb-true}
 use Rattle.mc_io.specs.Lines.{line_feed, carriage_return, onto_first, pieces, onto_text, text_of, has_feed, AreCut, IsTextOf}
-
-same_byte : (b c : ℕ) → (b == c) ≡ true → b ≡ c
-same_byte b c is = grind (arith, nat_tests)
 
 -- ---- pieces
 
@@ -18,7 +16,7 @@ are_cut (b ∷ bytes) = by_byte (b == line_feed) refl (are_cut bytes)
     onto other (p ∷ ps) (clear, inr l) = (rw other clear, inr (record { none_later = l.none_later; is = ap (λ t. b ∷ t) l.is; some = omega arith }))
 
     by_byte : (t : Bool) → (b == line_feed) ≡ t → AreCut (pieces bytes) bytes → AreCut (if t then [] ∷ pieces bytes else onto_first b (pieces bytes)) (b ∷ bytes)
-    by_byte true feed later = (refl, inl (record { rest = bytes; joined = ap (λ x. x ∷ bytes) (same_byte b line_feed feed); later = later }))
+    by_byte true feed later = (refl, inl (record { rest = bytes; joined = ap (λ x. x ∷ bytes) (eqb-true b line_feed feed); later = later }))
     by_byte false other later = onto other (pieces bytes) later
 
 record SameCut (p q r s : List ℕ) : Type 0 where
@@ -101,7 +99,7 @@ text_is (b ∷ piece) = onto (text_of piece) (text_is piece)
     by_byte : (t : Bool) → (b == carriage_return) ≡ t → IsTextOf piece [] → IsTextOf (b ∷ piece) (if t then [] else b ∷ [])
     by_byte true is later = record {
       returns = suc later.returns;
-      joined = ap (λ x. x ∷ piece) (same_byte b carriage_return is) ∙ ap (λ t. carriage_return ∷ t) later.joined;
+      joined = ap (λ x. x ∷ piece) (eqb-true b carriage_return is) ∙ ap (λ t. carriage_return ∷ t) later.joined;
       ends = later.ends;
     }
     by_byte false other later = record {

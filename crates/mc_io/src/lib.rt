@@ -19,6 +19,8 @@ mod taking;
 mod writing;
 
 pub use input_buffer::InputBuffer;
+pub use line_finding::first_feed;
+pub use line_text::{is_long, text_len};
 pub use lines::{LineStep, Lines, lines_law};
 pub use memory_sink::MemorySink;
 pub use memory_source::MemorySource;

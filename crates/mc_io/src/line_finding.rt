@@ -86,7 +86,7 @@ fn find_front<S: Source>(buffer: &mut InputBuffer, source: &mut S) -> Result<Fro
 }
 
 /// How many bytes stand before the first line feed, where none stands before a place.
-fn first_feed(bytes: &[u8], from: usize) -> Option<usize>
+pub fn first_feed(bytes: &[u8], from: usize) -> Option<usize>
     requires within { from ≤ length bytes.now }
     requires clear { has_feed (take from bytes.now) ≡ false }
     ensures found { IfSome result (λ n. IsFirstFeed bytes.now n × (from ≤ n)) }

@@ -2,7 +2,7 @@
 use Rattle.std.proofs.Common.{◌≡◌, ◌≢◌, ◌∙◌, ◌⊎◌, ℕ, ◌<◌, ◌≤◌, true, false, List, [], ◌∷◌, ◌++◌, Some, length, reverse, get_or, slice_get, subst, sym, ap, arith, refl, inl, inr, ◌==◌, ◌&&◌, ◌||◌}
 use Rattle.std.proofs.Math.Bool.{or_comm}
 use Rattle.std.specs.Prelude.{AllPairs}
-use Rattle.std.proofs.lemmas.Bool.{cases_Bool, cases_eq, cases_lt}
+use Rattle.std.proofs.lemmas.Bool.{cases_Bool, cases_eq, cases_lt, or_cases, or_left, or_right, eqb-true, eq-eqb}
 use Rattle.std.proofs.lemmas.Bool.Decides.{nat_tests}
 use Rattle.std.proofs.lemmas.List.{append-nil}
 use Rattle.std.proofs.lemmas.Option.{slice_get_within, get_or_from_slice_get}
@@ -14,6 +14,20 @@ use Rattle.mc_mol.specs.WellFormed.{IsMolecule}
 use Rattle.mc_mol.proofs.Lists.{slice_get-append_left, slice_get-append_past}
 use Rattle.mc_mol.proofs.Twins.{all_have_twins}
 
+-- ---- the ends of a bond
+
+pub touches_cases : (bond : Bond) (k : ℕ) → touches bond k ≡ true → (bond.first.0 ≡ k) ⊎ (bond.second.0 ≡ k)
+touches_cases bond k e = elim (or_cases (bond.first.0 == k) (bond.second.0 == k) e) [ inl here ↦ inl (eqb-true bond.first.0 k here) | inr there ↦ inr (eqb-true bond.second.0 k there) ]
+
+pub touches_first : (bond : Bond) (k : ℕ) → bond.first.0 ≡ k → touches bond k ≡ true
+touches_first bond k e = or_left (bond.first.0 == k) (bond.second.0 == k) (eq-eqb bond.first.0 k e)
+
+pub touches_second : (bond : Bond) (k : ℕ) → bond.second.0 ≡ k → touches bond k ≡ true
+touches_second bond k e = or_right (bond.first.0 == k) (bond.second.0 == k) (eq-eqb bond.second.0 k e)
+
+pub joins_touches : (bond : Bond) (u v : ℕ) → joins bond u v ≡ true → touches bond u ≡ true
+joins_touches bond u v e = grind (arith, nat_tests)
+
 -- ---- two bonds
 
 pub joins_cases : (bond : Bond) (u v : ℕ) → joins bond u v ≡ true → ((bond.first.0 ≡ u) × (bond.second.0 ≡ v)) ⊎ ((bond.first.0 ≡ v) × (bond.second.0 ≡ u))
@@ -22,6 +36,13 @@ joins_cases bond u v e = grind (arith, nat_tests)
 pub joins_from : (bond : Bond) (u v : ℕ) → ((bond.first.0 ≡ u) × (bond.second.0 ≡ v)) ⊎ ((bond.first.0 ≡ v) × (bond.second.0 ≡ u)) → joins bond u v ≡ true
 joins_from bond u v (inl (e, f)) = grind (arith, nat_tests)
 joins_from bond u v (inr (e, f)) = grind (arith, nat_tests)
+
+-- the ends of two bonds may be named from either
+pub turned_joins : (b c : Bond) → joins b c.first.0 c.second.0 ≡ true → joins c b.first.0 b.second.0 ≡ true
+turned_joins b c e = elim (joins_cases b c.first.0 c.second.0 e) [
+  | inl same ↦ joins_from c b.first.0 b.second.0 (inl (sym same.0, sym same.1))
+  | inr turned ↦ joins_from c b.first.0 b.second.0 (inr (sym turned.1, sym turned.0))
+]
 
 -- a bond between the ends of another one
 pub joins_ends : (b c : Bond) (u v : ℕ) → joins b u v ≡ true → joins c u v ≡ true → joins b c.first.0 c.second.0 ≡ true

@@ -82,7 +82,7 @@ are_joined-half_edges_by (bond ∷ bonds) u v ne =
     ∙ ap (λ b. are_joined bonds u v || b) (finds_by bond bonds u v _ _ refl refl ne)
     ∙ or_comm (are_joined bonds u v) (joins bond u v)
 
-any_reverse : (p : Bond → Bool) (bonds : List Bond) → list_any p (reverse bonds) ≡ list_any p bonds
+pub any_reverse : (p : Bond → Bool) (bonds : List Bond) → list_any p (reverse bonds) ≡ list_any p bonds
 any_reverse p [] = refl
 any_reverse p (bond ∷ bonds) =
     ap (λ xs. list_any p xs) (reverse-append (bond ∷ []) bonds) ∙ list_any-append p (reverse bonds) (bond ∷ [])

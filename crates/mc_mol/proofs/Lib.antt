@@ -5,6 +5,7 @@ pub mod Added
 pub mod Twins
 pub mod Apart
 pub mod Marked
+pub mod Slots
 pub mod Evenness
 pub mod Rows
 pub mod Labelled

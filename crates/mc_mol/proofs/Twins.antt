@@ -81,7 +81,7 @@ twin_second bond bonds n is = record {
   twin = latest bond bonds bond.first.0 _ (half_edge-first bond bonds);
 }
 
-same_atom : (a b : AtomId) → a.0 ≡ b.0 → a ≡ b
+pub same_atom : (a b : AtomId) → a.0 ≡ b.0 → a ≡ b
 same_atom a b e = ap (λ (n : ℕ). let atom : AtomId = record { 0 = n } in atom) e
 
 twin_latest : (bond : Bond) (bonds : List Bond) (n : ℕ) (a : AtomId) (place : ℕ) (half : HalfEdge) → IsBond n bond

@@ -7,6 +7,7 @@ use Rattle.std.specs.Char.{is_ascii_digit}
 use Rattle.std.specs.Str.Parse.{AllDigits}
 use Rattle.std.proofs.lemmas.Option.{some_pair_parts}
 use Rattle.std.proofs.lemmas.Bool.{cond-false}
+use Rattle.std.proofs.lemmas.List.Elements.{All-nil}
 use Rattle.mc_base.specs.declared.ids.AtomId.{AtomId}
 use Rattle.mc_base.proofs.Digits.{is_digit}
 use Rattle.mc_base.specs.Digits.{starts_digit}
@@ -111,9 +112,6 @@ pub record Reading (text : List ℕ) (done : List AtomId) (rest : List ℕ) : Ty
 
 -- ---- all of a list
 
-none_at : {X : Type 0} (P : X → Type 0) → All P []
-none_at P = λ k d less. absurd (omega arith)
-
 head_at : (a : AtomId) (atoms : List AtomId) → AreAtoms (a ∷ atoms) → a.0 < 2 ^ 32 - 1
 head_at a atoms all = all 0 a (omega arith)
 
@@ -143,7 +141,7 @@ at_first first more tail rest is small stops = atom_read first (later_numbers mo
 })
 
 pub start : (text : List ℕ) → goes_on text ≡ true → Reading text [] text
-start text goes = record { joined = refl; in_range = none_at _; complete = all }
+start text goes = record { joined = refl; in_range = All-nil _; complete = all }
   where
     all : (others : List AtomId) (tail : List ℕ) → IsList others tail text → Goes others [] tail text
     all [] tail list = let stop : goes_on text ≡ false = ap goes_on list.joined ∙ list.stops in cc
@@ -244,7 +242,7 @@ pub empty_found : (text : List ℕ) → goes_on text ≡ false → FindsList tex
 empty_found text stops = λ others tail. ((λ e. at_pair (λ x y. IsList x y text) [] others text tail here e), only others tail)
   where
     here : IsList [] text text
-    here = record { joined = refl; in_range = none_at _; stops = stops }
+    here = record { joined = refl; in_range = All-nil _; stops = stops }
 
     only : (others : List AtomId) (tail : List ℕ) → IsList others tail text → ◌≡◌ {A = Option (List AtomId × List ℕ)} (Some ([], text)) (Some (others, tail))
     only [] tail list = ap (λ t. Some ([], t)) list.joined

@@ -17,7 +17,8 @@ use Rattle.mc_report.specs.Fronts.{IsList, FindsList, labelled, most_count, word
 use Rattle.mc_report.specs.Behind.{FindsLine, FindsKind, IsKind, RefusedBehind, BarrierBehind, barrier_of, barrier_with, place_of, place_with, is_end, name_len, ends_name}
 use Rattle.mc_report.proofs.Words.{word_found, word_read}
 use Rattle.mc_report.proofs.Labels.{last_read, last_found}
-use Rattle.mc_report.proofs.Names.{has_space, no_space, same_name}
+use Rattle.mc_report.proofs.Names.{has_space, no_space}
+use Rattle.mc_base.proofs.NamesApart.{names_apart}
 
 abbrev made : Kind → ℕ → List AtomId → ℕ → Refusal
 made kind place barrier odd = record { kind = kind; place = place; barrier = barrier; odd = odd }
@@ -74,7 +75,7 @@ pub kind_some : (text : List ℕ) (kind : Kind) (rest : List ℕ) → kind_name 
 kind_some text kind rest name behind = λ other tail. (
   (λ e. let same = some_pair_parts kind other rest tail e in subst (λ k. IsKind k tail text) same.0 (subst (λ t. IsKind kind t text) same.1 here)),
   (λ is. let there = cut_kind other tail text is in
-      ap (λ k. Some (k, rest)) (same_name kind other (name ∙ there.name)) ∙ ap (λ t. Some (other, t)) (behind ∙ there.behind)),
+      ap (λ k. Some (k, rest)) (names_apart kind other (name ∙ there.name)) ∙ ap (λ t. Some (other, t)) (behind ∙ there.behind)),
 )
   where
     here : IsKind kind rest text

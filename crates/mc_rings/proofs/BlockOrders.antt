@@ -8,7 +8,7 @@ use Rattle.std.proofs.lemmas.List.Sums.{sum_by_from}
 use Rattle.std.proofs.lemmas.Option.{get_or_from_slice_get, slice_get-get_or, slice_get_within, same_Some}
 use Rattle.std.specs.List.Sorted.{IsNonDecreasingBy, IsPermutation}
 use Rattle.mc_base.specs.declared.ids.AtomId.{AtomId}
-use Rattle.mc_mol.proofs.Apart.{joins_cases}
+use Rattle.mc_mol.proofs.Apart.{joins_cases, touches_first, touches_second, touches_cases}
 use Rattle.mc_mol.proofs.Connected.{Leads, connected_back}
 use Rattle.mc_mol.proofs.Halves.{same_test}
 use Rattle.mc_mol.proofs.LeastPlaces.{one_mark}
@@ -83,15 +83,6 @@ stands (a ∷ xs) x some = elim (cases_eq a.0 x) [
       let rest = stands xs x (omega arith) in
       (suc rest.0, rest.1)
 ]
-
-touches_first : (bond : Bond) (x : ℕ) → bond.first.0 ≡ x → touches bond x ≡ true
-touches_first bond x e = rw (e, same_test x) refl
-
-touches_second : (bond : Bond) (x : ℕ) → bond.second.0 ≡ x → touches bond x ≡ true
-touches_second bond x e = rw (e, same_test x) (or-true (bond.first.0 == x))
-
-touched_cases : (bond : Bond) (x : ℕ) → touches bond x ≡ true → (bond.first.0 ≡ x) ⊎ (bond.second.0 ≡ x)
-touched_cases bond x e = elim (or_cases (bond.first.0 == x) (bond.second.0 == x) e) [ inl here ↦ inl (eqb-true bond.first.0 x here) | inr there ↦ inr (eqb-true bond.second.0 x there) ]
 
 -- a tree with the block of each bond
 pub record Numbered (t : Tree) (blocks : List ℕ) : Type 0 where
@@ -283,7 +274,7 @@ order_of t atoms centres sides blocks order count n s = record {
   ends = λ block x e.
       let own = n.each e.number e.bond block e.is_bond e.in_block in
       let both = block_ends t n.is e.bond.first.0 e.bond.second.0 block (bond_joined t.bonds e.number e.bond e.is_bond) own in
-      elim (touched_cases e.bond x e.touched) [
+      elim (touches_cases e.bond x e.touched) [
         | inl first ↦ subst (λ (m : ℕ). IsEnd t block m) first both.0
         | inr second ↦ subst (λ (m : ℕ). IsEnd t block m) second both.1
       ];

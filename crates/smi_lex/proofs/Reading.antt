@@ -7,9 +7,9 @@ use Rattle.smi_lex.specs.declared.token.Token.{Token}
 use Rattle.smi_lex.specs.declared.token.TokenKind.{TokenKind}
 use Rattle.smi_lex.specs.Grammar.{Spells}
 use Rattle.smi_lex.specs.Fronts.{token_front}
-use Rattle.smi_lex.specs.Reading.{IsReading, IsTokenOf}
+use Rattle.smi_lex.specs.Reading.{IsReading, IsTokenOf, NoTokenBegins}
 use Rattle.smi_lex.specs.Tokens.{kinds, tokens_from, unread}
-use Rattle.smi_lex.proofs.Longest.{not_empty, split, take_front}
+use Rattle.smi_lex.proofs.Longest.{no_token, not_empty, split, take_front}
 use Rattle.smi_lex.proofs.Steps.{kinds_stop, tokens_step, tokens_stop, unread_stop}
 use Rattle.smi_lex.proofs.Stepping.{stands_at}
 use Rattle.smi_lex.proofs.TokenRead.{Found, token_read}
@@ -120,23 +120,41 @@ token_bytes text token is =
           absurd (omega arith)
     ]
 
-pub only_reading : (text : List ℕ) (at : ℕ) (ts : List Token) → at ≤ length text → IsReading text at ts (length text)
+-- where no token begins, none is found
+none_begins : (text : List ℕ) (at : ℕ) → at ≤ length text → NoTokenBegins text at → token_front (drop at text) ≡ None
+none_begins text at inside none = elim (token_front (drop at text)) as (λ o. token_front (drop at text) ≡ o → token_front (drop at text) ≡ None) [
+  | None ↦ λ is. is
+  | Some found ↦ λ is.
+      let stands = stands_at text at found.0 found.1 inside is in
+      absurd (none found.0 (length text - length found.1) stands.longest.within stands.longest.spelled)
+] refl
+
+-- tokens up to a place at which none begins are those of the text
+pub only_front : (text : List ℕ) (at end : ℕ) (ts : List Token) → at ≤ length text → end ≤ length text → IsReading text at ts end → NoTokenBegins text end
     → ts ≡ tokens_from at 0 (drop at text)
-only_reading text at [] inside end = sym (ap (λ t. tokens_from at 0 t) (drop_of_length-le text (let e : length text ≤ at = omega arith in e)))
-only_reading text at (token ∷ ts) inside (begins, is, later) =
+only_front text at end [] inside within here none =
+    sym (tokens_stop at (drop at text) (none_begins text at inside (subst (λ n. NoTokenBegins text n) (sym here) none)))
+only_front text at end (token ∷ ts) inside within (begins, is, later) none =
     let to = token.span.to in
     let more = token_bytes text token is in
-    let within = is.within in
     let behind : List ℕ = drop (to - token.span.from) (drop token.span.from text) in
     let found : token_front (drop token.span.from text) ≡ Some (token.kind, behind) = longest_found text token is in
     let size : length (drop token.span.from text) ≡ length text - token.span.from = length-drop token.span.from text in
     let left : length behind ≡ length (drop token.span.from text) - (to - token.span.from) = length-drop (to - token.span.from) (drop token.span.from text) in
     let same : behind ≡ drop to text =
     drop-drop (to - token.span.from) token.span.from text ∙ ap (λ n. drop n text) (let e : token.span.from + (to - token.span.from) ≡ to = omega arith in e) in
-    let others : ts ≡ tokens_from to 0 (drop to text) = only_reading text to ts within later in
+    let others : ts ≡ tokens_from to 0 (drop to text) = only_front text to end ts is.within within later none in
+    let ends = is.within in
     let step : tokens_from token.span.from 0 (drop token.span.from text) ≡ record { kind = token.kind; span = record { from = token.span.from; to = to } } ∷ tokens_from to 0 behind =
     tokens_step token.span.from to (drop token.span.from text) token.kind behind found (omega arith) in
     ap (λ us. token ∷ us) others ∙ ap (λ t. token ∷ tokens_from to 0 t) (sym same) ∙ sym step ∙ ap (λ n. tokens_from n 0 (drop n text)) begins
+
+-- none begins at the end
+none_at_end : (text : List ℕ) → NoTokenBegins text (length text)
+none_at_end text = no_token text (length text) (ap token_front (drop_of_length-le text (let e : length text ≤ length text = omega arith in e)))
+
+pub only_reading : (text : List ℕ) (ts : List Token) → IsReading text 0 ts (length text) → ts ≡ tokens_from 0 0 text
+only_reading text ts is = only_front text 0 (length text) ts (omega arith) (omega arith) is (none_at_end text)
 
 -- what is spelled by one text is one kind
 pub one_kind : (kind other : TokenKind) (text : List ℕ) → Spells kind text → Spells other text → kind ≡ other

@@ -58,12 +58,13 @@ impl<'a> Lexer<'a> {
 }
 
 /// The tokens that compute are the reading of the text up to the first byte at which no token
-/// begins; a text that is read whole has no other reading, and no text is spelled by two kinds.
+/// begins, and there is no other reading up to such a byte; no text is spelled by two kinds.
 pub fn tokens_law()
     ensures reading { (text : List ℕ) → IsReading text 0 (tokens text) (length text - length (unread text)) }
     ensures rest { (text : List ℕ) → drop (length text - length (unread text)) text ≡ unread text }
     ensures stops { (text : List ℕ) → NoTokenBegins text (length text - length (unread text)) }
     ensures only { (text : List ℕ) (others : List Token) → IsReading text 0 others (length text) → others ≡ tokens text }
+    ensures only_front { (text : List ℕ) (others : List Token) (end : ℕ) → end ≤ length text → IsReading text 0 others end → NoTokenBegins text end → others ≡ tokens text }
     ensures kinds { (text : List ℕ) → map (λ token. token.kind) (tokens text) ≡ kinds text }
     ensures one_kind { (kind other : TokenKind) (text : List ℕ) → Spells kind text → Spells other text → kind ≡ other }
 {}

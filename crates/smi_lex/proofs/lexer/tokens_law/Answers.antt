@@ -1,7 +1,7 @@
 use Rattle.std.proofs.Common.{arith, ap, ◌∙◌}
 use Rattle.smi_lex.specs.Fronts.{token_front}
 use Rattle.smi_lex.proofs.Longest.{no_token}
-use Rattle.smi_lex.proofs.Reading.{one_kind, only_reading, reads_from}
+use Rattle.smi_lex.proofs.Reading.{one_kind, only_front, only_reading, reads_from}
 use Rattle.smi_lex.proofs.lexer.tokens_law.Goals as goal
 
 pub returns-clause-reading : goal.returns-clause-reading
@@ -16,7 +16,10 @@ returns-clause-stops c = λ text.
     no_token text _ (ap token_front reads.rest ∙ reads.stops)
 
 pub returns-clause-only : goal.returns-clause-only
-returns-clause-only c = λ text others is. only_reading text 0 others (omega arith) is
+returns-clause-only c = λ text others is. only_reading text others is
+
+pub returns-clause-only_front : goal.returns-clause-only_front
+returns-clause-only_front c = λ text others end within is none. only_front text 0 end others (omega arith) within is none
 
 pub returns-clause-kinds : goal.returns-clause-kinds
 returns-clause-kinds c = λ text. (reads_from text 0 (omega arith)).same_kinds
