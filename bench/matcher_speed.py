@@ -1,9 +1,10 @@
 #!/usr/bin/env python3
-"""The time of the matcher as sizes double, for shapes that ask different things of it.
+"""The time of the matcher as sizes double, for shapes that ask different things of it, by the clock or by instructions.
 
 The graphs are made by tests of a crate that this script writes into a folder of its own, beside copies of the crates that
-the matcher stands on. `rt test` builds them; each shape is then one run of the built tests, which solves each graph again
-and again in one room and prints the time."""
+the matcher stands on. `rt test` builds them; each shape is then one run of the built tests, which solves each graph in one
+room and prints its nodes, its edges and the time. With --instructions each shape is run once under callgrind, which
+counts the instructions of one call; a machine that does other work too doesn't change them."""
 
 import argparse
 import math
@@ -12,11 +13,12 @@ import shutil
 import subprocess
 import tempfile
 
-from program import TOP, end
+from program import end
+from test_crate import built, counted, home, write
 
 CRATES = ["mc_base", "match_barrier", "match_blossom"]
 NAME = "matcher_speed"
-SHAPES = ["rings", "ladder", "nested", "hubs", "random"]
+SHAPES = ["rings", "ladder", "nested", "descending", "arms", "hubs", "random", "dense"]
 LIB = "//! Solves graphs of several shapes, as sizes double.\n#![tactic(auto)]\n\n#[cfg(test)]\nmod tests;\n"
 INVARIANT = """use Rattle.std.proofs.Common.{◌≡◌}
 use Rattle.matcher_speed.proofs.tests.solve_times.Given as goal
@@ -31,7 +33,8 @@ use match_blossom::{Matched, Matcher};
 use std::test::Fail;
 use std::time::Instant;
 
-const SIZES: [u32; 6] = [156, 312, 625, 1250, 2500, 4999];
+// Even and odd numbers of nodes in turn: of a graph with an odd one a search must fail.
+const SIZES: [u32; 10] = [312, 313, 624, 625, 1250, 1249, 2500, 2499, 4998, 4999];
 
 /// Adds an edge where there can be one.
 fn join(graph: &mut Graph, u: u32, v: u32) -> Result<(), Fail> {
@@ -55,15 +58,25 @@ fn solve_times(graph: &Graph, matcher: &mut Matcher, runs: u32)
     }
 }
 
-/// Prints the number of nodes, and the nanoseconds of RUNS calls.
+/// Twice the number of edges.
+fn ends(graph: &Graph) -> usize {
+    let mut ends = 0usize;
+    for v in 0..graph.node_count() {
+        ends = ends.saturating_add(graph.neighbours(v).len());
+    }
+    ends
+}
+
+/// Prints the number of nodes, that of edges, and the nanoseconds of RUNS calls.
 fn measure(rt: &HostRuntime, graph: &Graph) -> Result<(), Fail> {
     let nodes = graph.node_count();
     let mut matcher = Matcher::reserve(rt.alloc(), nodes, 0)?;
+    let edges = ends(graph) / 2;
     solve_times(graph, &mut matcher, 1);
     let start = Instant::now(rt)?;
     solve_times(graph, &mut matcher, RUNS);
     let taken = start.elapsed(rt)?;
-    println!(rt; "{nodes} {}", taken.as_nanos())?;
+    println!(rt; "{nodes} {edges} {}", taken.as_nanos())?;
     Ok(())
 }
 
@@ -98,7 +111,7 @@ fn ladder(rt: HostRuntime) -> Result<(), Fail> {
     Ok(())
 }
 
-/// Contracting the first triangle makes the second a cycle through it, and so on.
+/// Contracting the first triangle makes the second a cycle through it, and so on: all have one base.
 #[test]
 fn nested(rt: HostRuntime) -> Result<(), Fail> {
     for nodes in SIZES {
@@ -114,12 +127,79 @@ fn nested(rt: HostRuntime) -> Result<(), Fail> {
     Ok(())
 }
 
-/// Triangles, of each of which one node is joined to eight of a quarter of the nodes.
+/// The outer node of a way up from the root, which is the last node but one.
+fn outer_node(place: u32, pairs: u32) -> u32 {
+    if place == 0 {
+        pairs.saturating_mul(4)
+    } else {
+        place.saturating_mul(4).saturating_sub(3)
+    }
+}
+
+/// A way up from a free node, at whose end a triangle is contracted; then cycles close from above down, each with a base
+/// of its own, and only the last leads to the other free node.
 #[test]
-fn hubs(rt: HostRuntime) -> Result<(), Fail> {
+fn descending(rt: HostRuntime) -> Result<(), Fail> {
     for nodes in SIZES {
         let mut graph = Graph::new(rt.alloc(), nodes)?;
-        let hubs = nodes / 4;
+        let pairs = nodes.saturating_sub(2) / 4;
+        for k in 0..pairs {
+            let inner = k.saturating_mul(4);
+            join(&mut graph, inner, inner.saturating_add(1))?;
+            join(&mut graph, inner.saturating_add(2), inner.saturating_add(3))?;
+        }
+        for k in 0..pairs {
+            let inner = k.saturating_mul(4);
+            join(&mut graph, outer_node(k, pairs), inner)?;
+            if k > 0 {
+                join(&mut graph, outer_node(k.saturating_sub(1), pairs), inner.saturating_add(3))?;
+                join(&mut graph, inner, inner.saturating_add(2))?;
+            }
+        }
+        join(&mut graph, outer_node(pairs.saturating_sub(1), pairs), outer_node(pairs, pairs))?;
+        join(&mut graph, 0, pairs.saturating_mul(4).saturating_add(1))?;
+        measure(&rt, &graph)?;
+    }
+    Ok(())
+}
+
+/// Two triangles at the ends of two arms, an edge between them, and two free nodes: the matching is augmented over both.
+const ARMS: [(u32, u32); 12] = [
+    (0, 1),
+    (2, 3),
+    (4, 5),
+    (6, 7),
+    (1, 2),
+    (1, 3),
+    (5, 6),
+    (5, 7),
+    (2, 6),
+    (8, 0),
+    (8, 4),
+    (9, 0),
+];
+
+#[test]
+fn arms(rt: HostRuntime) -> Result<(), Fail> {
+    for nodes in SIZES {
+        let mut graph = Graph::new(rt.alloc(), nodes)?;
+        for k in 0..nodes / 10 {
+            let first = k.saturating_mul(10);
+            for (u, v) in ARMS {
+                join(&mut graph, first.saturating_add(u), first.saturating_add(v))?;
+            }
+        }
+        measure(&rt, &graph)?;
+    }
+    Ok(())
+}
+
+/// Triangles, of each of which one node is joined to each of the single nodes, which come first.
+#[test]
+fn hubs(rt: HostRuntime) -> Result<(), Fail> {
+    for nodes in [202u32, 404, 808, 1616] {
+        let mut graph = Graph::new(rt.alloc(), nodes)?;
+        let hubs = nodes / 202 * 49;
         for v in 0..nodes {
             let place = v.saturating_sub(hubs);
             let first = v.saturating_sub(place % 3);
@@ -127,9 +207,9 @@ fn hubs(rt: HostRuntime) -> Result<(), Fail> {
                 join(&mut graph, v, first)?;
                 join(&mut graph, v, first.saturating_add(1))?;
             }
-            if v >= hubs && v == first && hubs > 0 {
-                for k in 0..8u32 {
-                    join(&mut graph, v.wrapping_mul(7).wrapping_add(k) % hubs, v)?;
+            if v >= hubs && v == first {
+                for hub in 0..hubs {
+                    join(&mut graph, hub, v)?;
                 }
             }
         }
@@ -138,67 +218,75 @@ fn hubs(rt: HostRuntime) -> Result<(), Fail> {
     Ok(())
 }
 
-/// Two random edges a node.
-#[test]
-fn random(rt: HostRuntime) -> Result<(), Fail> {
+/// A graph with so many random edges for each node.
+fn random_graph(rt: &impl AllocGlobal, nodes: u32, edges: u32) -> Result<Graph, Fail> {
     let mut state: u64 = 20261201;
-    for nodes in SIZES {
-        let mut graph = Graph::new(rt.alloc(), nodes)?;
-        for v in 0..nodes {
-            for _ in 0..2 {
-                state = state.wrapping_mul(6364136223846793005).wrapping_add(1442695040888963407);
-                if nodes > 0 {
-                    join(&mut graph, v, ((state >> 33) % (nodes as u64)) as u32)?;
-                }
+    let mut graph = Graph::new(rt.alloc(), nodes)?;
+    for v in 0..nodes {
+        for _ in 0..edges {
+            state = state.wrapping_mul(6364136223846793005).wrapping_add(1442695040888963407);
+            if nodes > 0 {
+                join(&mut graph, v, ((state >> 33) % (nodes as u64)) as u32)?;
             }
         }
-        measure(&rt, &graph)?;
+    }
+    Ok(graph)
+}
+
+#[test]
+fn random(rt: HostRuntime) -> Result<(), Fail> {
+    for nodes in SIZES {
+        measure(&rt, &random_graph(&rt, nodes, 2)?)?;
+    }
+    Ok(())
+}
+
+/// Most of these have a perfect matching, found through many blossoms.
+#[test]
+fn dense(rt: HostRuntime) -> Result<(), Fail> {
+    for nodes in SIZES {
+        measure(&rt, &random_graph(&rt, nodes, 5)?)?;
     }
     Ok(())
 }
 """
 
 
-def write(path, text):
-    os.makedirs(os.path.dirname(path), exist_ok=True)
-    with open(path, "w", encoding="utf-8") as file:
-        file.write(text)
-
-
-def built(folder, runs):
-    """The built tests of the crate, which stands beside copies of the crates that it needs."""
-    for name in CRATES:
-        shutil.copytree(os.path.join(TOP, "crates", name), os.path.join(folder, "crates", name), ignore=shutil.ignore_patterns("out"))
-    home = os.path.join(folder, "crates", NAME)
-    write(os.path.join(home, "src", "lib.rt"), LIB)
-    write(os.path.join(home, "src", "tests.rt"), TESTS.replace("RUNS", str(runs)))
-    write(os.path.join(home, "proofs", "tests", "solve_times", "Invariants.antt"), INVARIANT)
-    write(os.path.join(folder, "crates.txt"), f"mc_base:\nmatch_barrier: mc_base\nmatch_blossom: mc_base match_barrier\n{NAME}: mc_base match_barrier match_blossom\n")
-    child = subprocess.run(["rt", "test"], cwd=home, capture_output=True)
-    tests = os.path.join(home, "out", f"{NAME}_tests")
-    if child.returncode != 0 or not os.path.exists(tests):
-        end(child.stderr.decode(errors="replace") + child.stdout.decode(errors="replace"))
-    return tests
+def written(folder, runs):
+    """The crate of the tests, each of which solves a graph so many times."""
+    write(os.path.join(home(folder, NAME), "src", "lib.rt"), LIB)
+    write(os.path.join(home(folder, NAME), "src", "tests.rt"), TESTS.replace("RUNS", str(runs)))
+    write(os.path.join(home(folder, NAME), "proofs", "tests", "solve_times", "Invariants.antt"), INVARIANT)
 
 
 def main():
     words = argparse.ArgumentParser(description=__doc__)
-    words.add_argument("--runs", type=int, default=100, help="how often a graph is solved")
-    runs = words.parse_args().runs
+    words.add_argument("--runs", type=int, default=100, help="how often a graph is solved, by the clock")
+    words.add_argument("--instructions", action="store_true", help="count instructions in place of time")
+    given = words.parse_args()
+    if given.instructions and shutil.which("valgrind") is None:
+        end("valgrind isn't installed\n")
     with tempfile.TemporaryDirectory() as folder:
-        tests = built(folder, runs)
-        print(f"{'shape':<8} {'nodes':>6} {'call, us':>10} {'power':>6}")
+        runs = 1 if given.instructions else given.runs
+        written(folder, runs)
+        tests = built(folder, NAME, CRATES)
+        unit = "thousands" if given.instructions else "call, us"
+        print(f"{'shape':<10} {'nodes':>6} {'edges':>8} {unit:>12} {'power':>6}")
         for shape in SHAPES:
-            before = None
-            child = subprocess.run([tests, f"tests::{shape}"], capture_output=True, text=True)
-            for line in child.stdout.splitlines():
-                fields = line.split()
-                if len(fields) != 2 or not all(field.isdigit() for field in fields):
-                    continue
-                taken = int(fields[1]) / runs / 1000
-                power = f"{math.log2(taken / before):6.2f}" if before and taken > 0 else ""
-                print(f"{shape:<8} {fields[0]:>6} {taken:>10.1f} {power:>6}")
-                before = taken
+            if given.instructions:
+                text, counts = counted(tests, f"tests::{shape}", f"{NAME}::tests::solve_times", folder)
+                # each graph is solved once before the call that counts
+                counts = counts[1::2]
+            else:
+                text, counts = subprocess.run([tests, f"tests::{shape}"], capture_output=True, text=True).stdout, None
+            rows = [tuple(map(int, line.split())) for line in text.splitlines() if len(line.split()) == 3 and all(word.isdigit() for word in line.split())]
+            before = {}
+            for k, (nodes, edges, nanoseconds) in enumerate(rows):
+                taken = (counts[k] if counts else nanoseconds / runs) / 1000
+                last = before.get(nodes % 2)
+                power = f"{math.log(taken / last[1]) / math.log(nodes / last[0]):6.2f}" if last and taken > 0 else ""
+                print(f"{shape:<10} {nodes:>6} {edges:>8} {taken:>12.1f} {power:>6}", flush=True)
+                before[nodes % 2] = (nodes, taken)
 
 
 if __name__ == "__main__":

@@ -1,11 +1,11 @@
 -- What a way up the tree gives a cycle.
 use Rattle.std.proofs.Common.{◌≡◌, ◌≢◌, ℕ, ◌≤◌, ◌<◌, List, [], ◌∷◌, ◌++◌, length, get_or, Bool, true, false, not, refl, ap, sym, ◌∙◌, inl, inr, arith, subst}
 use Rattle.std.specs.Prelude.{◌⊎◌}
-use Rattle.std.proofs.lemmas.Bool.{cases_eq, false≢true}
+use Rattle.std.proofs.lemmas.Bool.{cases_eq, false≢true, false_from_ne_true}
 use Rattle.match_barrier.specs.Graph.{has, IsGraph, NoRepeats}
 use Rattle.match_barrier.specs.Barrier.{is_odd}
 use Rattle.match_barrier.proofs.Counting.{has_cases}
-use Rattle.match_barrier.proofs.Edges.{has_front, has_rest, not_true_false}
+use Rattle.match_barrier.proofs.Edges.{has_front, has_rest}
 use Rattle.match_blossom.specs.Search.{Tree}
 use Rattle.match_blossom.specs.Climbing.{Climb}
 use Rattle.match_blossom.specs.Forest.{IsClimbing}
@@ -92,12 +92,12 @@ climb_different g mates root part outer inner parent order t a (x ∷ w ∷ xs) 
     let s = step_up g mates root part outer inner parent order t a w c.1 c.2 c.3 in
     let s1 = s.1 in let s2 = s.2 in
     let ox : order x ≡ order a = ap order c.0 in (
-      not_true_false (has (w ∷ xs) x) (λ h. elim (has_cases w xs x h) [
+      false_from_ne_true (has (w ∷ xs) x) (λ h. elim (has_cases w xs x h) [
         | inl e ↦ let k : order w ≡ order x = ap order e in absurd (omega arith)
         | inr rest ↦ let b = (on_the_way g mates root part outer inner parent order t (part (parent w)) xs base c.4 x rest).before in absurd (omega arith)
       ]),
       (
-        not_true_false (has xs w) (λ h. let b = (on_the_way g mates root part outer inner parent order t (part (parent w)) xs base c.4 w h).before in absurd (omega arith)),
+        false_from_ne_true (has xs w) (λ h. let b = (on_the_way g mates root part outer inner parent order t (part (parent w)) xs base c.4 w h).before in absurd (omega arith)),
         climb_different g mates root part outer inner parent order t (part (parent w)) xs base c.4,
       ),
     )

@@ -1,11 +1,10 @@
 -- What contracting a cycle keeps of the queue, the touched nodes, the pointers and the stack.
 use Rattle.std.proofs.Common.{◌≡◌, ℕ, zero, suc, ◌+◌, ◌≤◌, ◌<◌, List, [], ◌∷◌, ◌++◌, length, get_or, set, drop, take, Bool, true, false, refl, ap, sym, ◌∙◌, inl, inr, arith, subst}
 use Rattle.std.specs.Prelude.{cond, ◌⊎◌}
-use Rattle.std.proofs.lemmas.Bool.{cases_eq, cases_lt, false≢true}
+use Rattle.std.proofs.lemmas.Bool.{cases_eq, cases_lt, false≢true, cases_Bool, false_from_ne_true}
 use Rattle.std.proofs.lemmas.List.{take_at, drop_at}
 use Rattle.match_barrier.specs.Graph.{has}
-use Rattle.match_barrier.proofs.Counting.{either}
-use Rattle.match_barrier.proofs.Edges.{has_front, has_rest, not_true_false}
+use Rattle.match_barrier.proofs.Edges.{has_front, has_rest}
 use Rattle.match_blossom.specs.declared.tree.Label.{Label}
 use Rattle.match_blossom.specs.declared.tree.Label.TheVariants.{Outside}
 use Rattle.match_blossom.specs.Labels.{at, is_outer, is_inner, says_outer, says_inner}
@@ -33,15 +32,15 @@ member_class g part base others c u h = class_inside part base others u (ap (has
 pub points_contract : (g : List (List ℕ)) (part : ℕ → ℕ) (base : ℕ) (others : List ℕ) (n : ℕ) (point point' : ℕ → ℕ) → IsCycle g part base others → PointsTo n point part
     → ((u : ℕ) → u < n → point' u ≡ cond (has others u) base (point u)) → PointsTo n point' (folded part base others)
 points_contract g part base others n point point' c p new = record {
-  same = λ u within. elim (either (has others u)) [
+  same = λ u within. elim (cases_Bool (has others u)) [
     | inl h ↦ ap part' (new u within ∙ by_member (has others u) base (point u) h) ∙ base_class ∙ sym (member_class g part base others c u h)
     | inr h ↦ ap part' (new u within ∙ by_other (has others u) base (point u) h) ∙ ap (λ (x : ℕ). cond (has (base ∷ others) x) base x) (p.same u within)
   ];
-  own = λ u within e. elim (either (has others u)) [
+  own = λ u within e. elim (cases_Bool (has others u)) [
     | inl h ↦ absurd (false≢true (sym c.different.0 ∙ ap (has others) (sym (by_member (has others u) base (point u) h) ∙ sym (new u within) ∙ e) ∙ h))
     | inr h ↦ stays u h (p.own u within (sym (by_other (has others u) base (point u) h) ∙ sym (new u within) ∙ e))
   ];
-  living = λ u within e. elim (either (has others u)) [
+  living = λ u within e. elim (cases_Bool (has others u)) [
     | inl h ↦ absurd (false≢true (sym c.different.0 ∙ ap (has others) (sym (member_class g part base others c u h) ∙ e) ∙ h))
     | inr h ↦ new u within ∙ by_other (has others u) base (point u) h ∙ p.living u within (was u h e)
   ];
@@ -78,7 +77,7 @@ pub leads_points : (g : List (List ℕ)) (n : ℕ) (point : ℕ → ℕ) (foldin
 leads_points g n point [] f l = record { same = λ u less. l u less; own = λ u less e. refl; living = λ u less e. l u less }
 leads_points g n point (f ∷ earlier) fs l =
     points_contract g (part_of earlier) f.base f.others n (release f.others point) point fs.0 (leads_points g n (release f.others point) earlier fs.2 l.1)
-    (λ u less. elim (either (has f.others u)) [
+    (λ u less. elim (cases_Bool (has f.others u)) [
       | inl h ↦ l.0 u less h ∙ sym (by_member (has f.others u) f.base (release f.others point u) h)
       | inr h ↦ sym (by_other (has f.others u) f.base (release f.others point u) h ∙ by_other (has f.others u) u (point u) h)
     ])
@@ -88,7 +87,7 @@ pub leads_more : (g : List (List ℕ)) (n base : ℕ) (others : List ℕ) (point
     → ((u : ℕ) → u < n → point' u ≡ cond (has others u) base (point u)) → Leads n point' (record { base = base; others = others } ∷ foldings)
 leads_more g n base others point point' foldings c p l new = (
   (λ u less h. new u less ∙ by_member (has others u) base (point u) h),
-  leads_same n point (release others point') foldings (λ u less. elim (either (has others u)) [
+  leads_same n point (release others point') foldings (λ u less. elim (cases_Bool (has others u)) [
     | inl h ↦ p.living u less (c.living u (has_rest base others u h)).1 ∙ sym (by_member (has others u) u (point' u) h)
     | inr h ↦ sym (by_other (has others u) u (point' u) h ∙ new u less ∙ by_other (has others u) base (point u) h)
   ]) l,
@@ -97,11 +96,11 @@ leads_more g n base others point point' foldings c p l new = (
 pub falls_contract : (g : List (List ℕ)) (part : ℕ → ℕ) (base : ℕ) (others pointers pointers' order : List ℕ) → IsCycle g part base others → ((x : ℕ) → has others x ≡ true → at order base < at order x) → Falls pointers order
     → length g ≤ length pointers → ((u : ℕ) → at pointers' u ≡ cond (has others u) base (at pointers u)) → length pointers' ≡ length pointers → Falls pointers' order
 falls_contract g part base others pointers pointers' order c first f long new same = record {
-  below = λ u within. elim (either (has others u)) [
+  below = λ u within. elim (cases_Bool (has others u)) [
     | inl h ↦ let e : at pointers' u ≡ base = new u ∙ by_member (has others u) base (at pointers u) h in let low = (c.living base (has_front base others base refl)).0 in omega arith
     | inr h ↦ let e : at pointers' u ≡ at pointers u = new u ∙ by_other (has others u) base (at pointers u) h in let low = f.below u (omega arith) in omega arith
   ];
-  lower = λ u within away. elim (either (has others u)) [
+  lower = λ u within away. elim (cases_Bool (has others u)) [
     | inl h ↦ let e : at order (at pointers' u) ≡ at order base = ap (at order) (new u ∙ by_member (has others u) base (at pointers u) h) in let low = first u h in omega arith
     | inr h ↦
         let e : at pointers' u ≡ at pointers u = new u ∙ by_other (has others u) base (at pointers u) h in
@@ -118,12 +117,12 @@ pub inner_left : (labels labels' : List Label) (others : List ℕ) → ((u : ℕ
 inner_left labels labels' others cleared x h = ap says_inner (cleared x ∙ by_other (has others x) Outside (get_or labels x Outside) h)
 
 outer_gone : (labels labels' : List Label) (others : List ℕ) → ((u : ℕ) → get_or labels' u Outside ≡ cond (has others u) Outside (get_or labels u Outside)) → (x : ℕ) → is_outer labels' x ≡ true → has others x ≡ false
-outer_gone labels labels' others cleared x o = not_true_false (has others x) (λ h. false≢true (sym (ap says_outer (cleared x ∙ by_member (has others x) Outside (get_or labels x Outside) h)) ∙ o))
+outer_gone labels labels' others cleared x o = false_from_ne_true (has others x) (λ h. false≢true (sym (ap says_outer (cleared x ∙ by_member (has others x) Outside (get_or labels x Outside) h)) ∙ o))
 
 -- a node of an outer class stays in one
 outer_stays : (g : List (List ℕ)) (part : ℕ → ℕ) (base : ℕ) (others : List ℕ) (labels labels' : List Label) → IsCycle g part base others → is_outer labels base ≡ true
     → ((u : ℕ) → get_or labels' u Outside ≡ cond (has others u) Outside (get_or labels u Outside)) → (u : ℕ) → (is_outer labels (part u) ≡ true) ⊎ (has (base ∷ others) (part u) ≡ true) → is_outer labels' (folded part base others u) ≡ true
-outer_stays g part base others labels labels' c base_outer cleared u o = elim (either (has (base ∷ others) (part u))) [
+outer_stays g part base others labels labels' c base_outer cleared u o = elim (cases_Bool (has (base ∷ others) (part u))) [
   | inl in' ↦ ap (is_outer labels') (class_inside part base others u in') ∙ outer_left labels labels' others cleared base c.different.0 ∙ base_outer
   | inr out ↦
       let e : folded part base others u ≡ part u = class_outside part base others u out in
@@ -150,11 +149,11 @@ queue_contracts g mates root part labels labels' parent order base others queue 
         let in' : has (base ∷ others) (at queue' k) ≡ true = has_rest base others (at queue' k) n.0 in
         outer_stays g part base others labels labels' f.cycle f.base_outer cleared (at queue' k) (inr (ap (has (base ∷ others)) (f.cycle.living (at queue' k) in').1 ∙ in'))
   ];
-  each = λ u within o. elim (either (is_outer labels (part u))) [
+  each = λ u within o. elim (cases_Bool (is_outer labels (part u))) [
     | inl was ↦ let s = q.each u within was in let s2 = s.2 in (s.0, s.1, omega arith, kept s.0 s.2 ∙ s.3)
     | inr not_outer ↦
         let own : part u ≡ u = t.alone u within not_outer in
-        elim (either (has others u)) [
+        elim (cases_Bool (has others u)) [
           | inl h ↦ elim (f.labelled u h) [
             | inl outer ↦ absurd (false≢true (sym not_outer ∙ ap (is_outer labels) own ∙ outer))
             | inr inner ↦ let s = each u h inner in (s.0, omega arith, s.2, s.3)
@@ -174,14 +173,14 @@ pub touched_contract : (labels labels' : List Label) (base others pointers point
     → ((u : ℕ) → at pointers' u ≡ cond (has others u) b (at pointers u)) → length pointers' ≡ length pointers → IsTouched labels pointers touched now → IsTouched labels' pointers' touched now
 touched_contract labels labels' base others pointers pointers' touched b now labelled cleared same new same' t = record {
   below = λ k within. let q = t.below k within in let q0 = q.0 in let q1 = q.1 in (omega arith, omega arith);
-  labelled = λ u. elim (either (has others u)) [
+  labelled = λ u. elim (cases_Bool (has others u)) [
     | inl h ↦ inl (cleared u ∙ by_member (has others u) Outside (get_or labels u Outside) h)
     | inr h ↦ elim (t.labelled u) [
       | inl none ↦ inl (cleared u ∙ by_other (has others u) Outside (get_or labels u Outside) h ∙ none)
       | inr s ↦ inr s
     ]
   ];
-  pointed = λ u within. elim (either (has others u)) [
+  pointed = λ u within. elim (cases_Bool (has others u)) [
     | inl h ↦ elim (t.labelled u) [
       | inl none ↦ absurd (elim (labelled u h) [ inl o ↦ false≢true (sym (ap says_outer none) ∙ o) | inr i ↦ false≢true (sym (ap says_inner none) ∙ i) ])
       | inr s ↦ inr s

@@ -1,12 +1,11 @@
 -- Contracting a cycle is a step.
 use Rattle.std.proofs.Common.{◌≡◌, ◌≢◌, ℕ, ◌+◌, ◌≤◌, ◌<◌, List, [], ◌∷◌, ◌++◌, length, drop, true, false, ap, sym, ◌∙◌, inl, inr, arith, subst}
 use Rattle.std.specs.Prelude.{cond}
-use Rattle.std.proofs.lemmas.Bool.{false≢true}
+use Rattle.std.proofs.lemmas.Bool.{false≢true, cases_Bool, false_from_ne_true}
 use Rattle.std.proofs.lemmas.List.{length-set}
 use Rattle.match_barrier.specs.Graph.{has, adjacent, IsGraph}
 use Rattle.match_barrier.specs.Barrier.{count}
-use Rattle.match_barrier.proofs.Counting.{either, has_cases, test_same}
-use Rattle.match_barrier.proofs.Edges.{not_true_false}
+use Rattle.match_barrier.proofs.Counting.{has_cases, test_same}
 use Rattle.match_blossom.specs.declared.tree.AlternatingTree.{AlternatingTree}
 use Rattle.match_blossom.specs.declared.cycles.Cycles.{Cycles}
 use Rattle.match_blossom.specs.Labels.{at, is_outer, is_inner}
@@ -16,7 +15,7 @@ use Rattle.match_blossom.specs.Pointers.{Falls, Points, PointsTo, Leads}
 use Rattle.match_blossom.specs.Search.{IsFoldable}
 use Rattle.match_blossom.specs.Forest.{IsForest, IsSearch, IsQueue, IsTouched, HasRoom, IsAbsorbed, IsStep, TreeClimbs, stacked, base_in, lives}
 use Rattle.match_blossom.proofs.Steps.{folded_search, living_fall}
-use Rattle.match_blossom.proofs.Contracted.{points_contract, leads_more, falls_contract, queue_contracts, touched_contract, stack_grows, fits_more, inner_left}
+use Rattle.match_blossom.proofs.Contracted.{points_contract, leads_points, leads_more, falls_contract, queue_contracts, touched_contract, stack_grows, fits_more, inner_left}
 use Rattle.match_blossom.proofs.Unfolding.{class_inside, class_outside}
 use Rattle.match_blossom.proofs.Pairs.{not_in_cons}
 use Rattle.match_blossom.proofs.Meeting.{foldable, round}
@@ -50,13 +49,17 @@ contracts g mates f f' cy base from u v others is s edge fold differ u_in v_in n
     falls = subst (λ p. Falls f'.blossoms.base.items p.items) (sym b.order) (falls_contract g part base others f.blossoms.base.items f'.blossoms.base.items f.blossoms.order.items fold.cycle fold.first s.falls s.base_length b.pointers b.base_length);
     points = on_stack (λ (p : ℕ → ℕ). Points f'.blossoms.base.items p) (subst (λ (n : ℕ). PointsTo n (at f'.blossoms.base.items) (folded part base others)) (sym b.base_length)
         (points_contract g part base others (length f.blossoms.base.items) (at f.blossoms.base.items) (at f'.blossoms.base.items) fold.cycle s.points (λ x less. b.pointers x)));
-    leads = subst (λ (fs : List Folding). Leads (length f'.blossoms.base.items) (at f'.blossoms.base.items) fs) (sym stack) (subst (λ (n : ℕ). Leads n (at f'.blossoms.base.items) foldings) (sym b.base_length)
-        (leads_more g (length f.blossoms.base.items) base others (at f.blossoms.base.items) (at f'.blossoms.base.items) (stacked f.cycles) fold.cycle s.points s.leads (λ x less. b.pointers x)));
+    cycle_falls = subst (λ p. Falls f'.blossoms.cycle_base.items p.items) (sym b.order) (falls_contract g part base others f.blossoms.cycle_base.items f'.blossoms.cycle_base.items f.blossoms.order.items fold.cycle fold.first s.cycle_falls s.cycle_length b.cycle_pointers b.cycle_length);
+    leads = subst (λ (fs : List Folding). Leads (length f'.blossoms.cycle_base.items) (at f'.blossoms.cycle_base.items) fs) (sym stack) (subst (λ (n : ℕ). Leads n (at f'.blossoms.cycle_base.items) foldings) (sym b.cycle_length)
+        (leads_more g (length f.blossoms.cycle_base.items) base others (at f.blossoms.cycle_base.items) (at f'.blossoms.cycle_base.items) (stacked f.cycles) fold.cycle
+        (leads_points g (length f.blossoms.cycle_base.items) (at f.blossoms.cycle_base.items) (stacked f.cycles) s.search.folded s.leads) s.leads (λ x less. b.cycle_pointers x)));
     base_length = let k = s.base_length in let e = b.base_length in omega arith;
+    cycle_length = let k = s.cycle_length in let e = b.cycle_length in omega arith;
     fits = fits';
     queue = on_stack (λ (p : ℕ → ℕ). IsQueue g f'.labels.items p f'.queue.items f'.queued)
         (queue_contracts g mates f.root part f.labels.items f'.labels.items (at f.parent.items) (at f.blossoms.order.items) base others f.queue.items f'.queue.items f.queued f'.queued s.search.tree fold b.cleared s.queue b.queue b.low b.queued b.each);
     touched = subst (λ (k : ℕ). IsTouched f'.labels.items f'.blossoms.base.items f'.touched.items k) (sym b.now) (subst (λ p. IsTouched f'.labels.items f'.blossoms.base.items p.items f.now) (sym b.touched) (touched_contract f.labels.items f'.labels.items (base ∷ []) others f.blossoms.base.items f'.blossoms.base.items f.touched.items base f.now fold.labelled b.cleared b.labels_length b.pointers b.base_length s.touched));
+    cycle_touched = subst (λ (k : ℕ). IsTouched f'.labels.items f'.blossoms.cycle_base.items f'.touched.items k) (sym b.now) (subst (λ p. IsTouched f'.labels.items f'.blossoms.cycle_base.items p.items f.now) (sym b.touched) (touched_contract f.labels.items f'.labels.items (base ∷ []) others f.blossoms.cycle_base.items f'.blossoms.cycle_base.items f.touched.items base f.now fold.labelled b.cleared b.labels_length b.cycle_pointers b.cycle_length s.cycle_touched));
     room = on_stack (λ (p : ℕ → ℕ). HasRoom (length g) p f') room';
   };
   goes_on = record {
@@ -65,6 +68,7 @@ contracts g mates f f' cy base from u v others is s edge fold differ u_in v_in n
       labels = b.labels_length;
       parent = ap (λ p. length p.items) b.parent;
       base = b.base_length;
+      cycle_base = b.cycle_length;
       order = ap (λ p. length p.items) b.order;
       touched = ap (λ p. length p.items) b.touched;
       queue = b.queue_length;
@@ -74,12 +78,12 @@ contracts g mates f f' cy base from u v others is s edge fold differ u_in v_in n
     queue = b.queue;
     queued = b.low;
     one = λ x y bx by e. class' x ∙ ap (λ (p : ℕ). cond (has (base ∷ others) p) base p) e ∙ sym (class' y);
-    inner = λ x bx i. elim (either (has others (part x))) [
+    inner = λ x bx i. elim (cases_Bool (has others (part x))) [
       | inr out ↦
           let not_base : base ≢ part x = λ e. false≢true (sym (s.search.tree.not_both base fold.base_outer) ∙ ap (is_inner f.labels.items) e ∙ i) in
           inl (ap (is_inner f'.labels.items) (class' x ∙ class_outside part base others x (not_in_cons base others (part x) not_base out)) ∙ inner_left f.labels.items f'.labels.items others b.cleared (part x) out ∙ i)
       | inl in' ↦
-          let own : part x ≡ x = s.search.tree.alone x bx (not_true_false (is_outer f.labels.items (part x)) (λ o. false≢true (sym (s.search.tree.not_both (part x) o) ∙ i))) in
+          let own : part x ≡ x = s.search.tree.alone x bx (false_from_ne_true (is_outer f.labels.items (part x)) (λ o. false≢true (sym (s.search.tree.not_both (part x) o) ∙ i))) in
           inr (b.each x (ap (has others) (sym own) ∙ in') (ap (is_inner f.labels.items) (sym own) ∙ i))
     ];
   };

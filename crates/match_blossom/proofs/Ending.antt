@@ -1,10 +1,10 @@
 -- A tree with no edge left to scan is stuck.
 use Rattle.std.proofs.Common.{◌≡◌, ◌≢◌, ℕ, suc, ◌+◌, ◌≤◌, ◌<◌, List, length, get_or, Bool, true, false, refl, ap, sym, ◌∙◌, inl, inr, arith}
 use Rattle.std.specs.Prelude.{◌⊎◌}
-use Rattle.std.proofs.lemmas.Bool.{false≢true}
+use Rattle.std.proofs.lemmas.Bool.{false≢true, cases_Bool}
 use Rattle.match_barrier.specs.Graph.{has, adjacent}
 use Rattle.match_barrier.specs.Barrier.{count}
-use Rattle.match_barrier.proofs.Counting.{either, but, but_is, but_other, count_but}
+use Rattle.match_barrier.proofs.Counting.{but, but_is, but_other, count_but}
 use Rattle.match_blossom.specs.Foldings.{IsLiving}
 use Rattle.match_blossom.specs.Search.{Tree, Stuck}
 use Rattle.match_blossom.proofs.Parity.{covered_count}
@@ -40,7 +40,7 @@ pub stuck_of_tree : (g : List (List ℕ)) (set : List ℕ) (mates : List ℕ) (r
 stuck_of_tree g set mates root part outer inner parent order t members size closed = record {
   members = members;
   size = size;
-  inner_alone = λ u less in'. t.alone u less (by (part u) in' (either (outer (part u))));
+  inner_alone = λ u less in'. t.alone u less (by (part u) in' (cases_Bool (outer (part u))));
   inner_living = λ v in'. (t.inner_living v in').1;
   not_both = t.not_both;
   odd_classes = λ o less out. t.odd_classes o out;

@@ -1,18 +1,18 @@
 -- Where no edge is left, the living inner nodes are a barrier.
 use Rattle.std.proofs.Common.{◌≡◌, ℕ, ◌≤◌, ◌<◌, List, length, Bool, true, false, ap, sym, ◌∙◌, inl, inr, arith}
 use Rattle.std.specs.Prelude.{◌==◌, ◌⊎◌}
-use Rattle.std.proofs.lemmas.Bool.{false≢true}
+use Rattle.std.proofs.lemmas.Bool.{false≢true, eqb-true, cases_Bool}
 use Rattle.match_barrier.specs.Graph.{has, IsGraph}
 use Rattle.match_barrier.specs.Barrier.{count, names_odd_part, OddParts, IsBarrier}
-use Rattle.match_barrier.proofs.Counting.{either, test_same, same_of_test}
+use Rattle.match_barrier.proofs.Counting.{test_same}
 use Rattle.match_barrier.proofs.Naming.{some_number}
 use Rattle.match_blossom.specs.Search.{Stuck}
 use Rattle.match_blossom.proofs.Parity.{IsClosed, OddPartIn, odd_part_in, covered_count}
 
 class_closed : (g : List (List ℕ)) (s : List ℕ) (part : ℕ → ℕ) (outer inner : ℕ → Bool) → IsGraph g → Stuck g s part outer inner → (o : ℕ) → outer o ≡ true → IsClosed g s (λ u. part u == o)
 class_closed g s part outer inner is stuck o is_outer = record {
-  left = λ u less inside. by u less (same_of_test (part u) o inside) (either (has s u));
-  closed = λ u v inside edge left. let same : part u ≡ o = same_of_test (part u) o inside in
+  left = λ u less inside. by u less (eqb-true (part u) o inside) (cases_Bool (has s u));
+  closed = λ u v inside edge left. let same : part u ≡ o = eqb-true (part u) o inside in
       elim (stuck.closed u v edge (ap outer same ∙ is_outer)) [
         | inl one ↦ test_same (part v) o (one ∙ same)
         | inr blocked ↦ let alone : part v ≡ v = stuck.inner_alone v left.0 blocked in
@@ -31,7 +31,7 @@ stuck_barrier g s part outer inner odd is stuck parts =
     let (name, names, counted) = parts in
     let c : count (length g) outer ≤ count (length g) (names_odd_part g s name) = covered_count (length g) (names_odd_part g s name) part (length g) outer (λ o less is_outer.
     let found : OddPartIn g s name (λ u. part u == o) = odd_part_in g s name (λ u. part u == o) is names (class_closed g s part outer inner is stuck o is_outer) (stuck.odd_classes o less is_outer) in
-    (found.node, found.below, found.odd, same_of_test (part found.node) o found.inside)) in
+    (found.node, found.below, found.odd, eqb-true (part found.node) o found.inside)) in
     let one = stuck.one_more in
     let size = stuck.size in
     (parts, omega arith)

@@ -1,12 +1,12 @@
 -- Folding a cycle of the tree keeps the tree.
 use Rattle.std.proofs.Common.{◌≡◌, ℕ, zero, suc, ◌+◌, ◌≤◌, ◌<◌, List, [], ◌∷◌, length, get_or, Bool, true, false, refl, ap, sym, ◌∙◌, inl, inr, arith, subst}
 use Rattle.std.specs.Prelude.{cond, ◌⊎◌, ◌==◌, ◌&&◌, ◌||◌, not}
-use Rattle.std.proofs.lemmas.Bool.{cases_eq, false≢true}
+use Rattle.std.proofs.lemmas.Bool.{cases_eq, false≢true, eqb-true, cases_Bool, and_parts, and_from, not_from_false, false_from_ne_true}
 use Rattle.std.proofs.lemmas.Bool.Decides.{nat_tests}
 use Rattle.match_barrier.specs.Graph.{has, NoRepeats}
 use Rattle.match_barrier.specs.Barrier.{count, is_odd, one_if}
-use Rattle.match_barrier.proofs.Counting.{either, both_true, true_both, not_true_is, not_false_is, but, but_is, count_but, count_none, count_same, test_same, same_of_test}
-use Rattle.match_barrier.proofs.Edges.{has_front, has_rest, same_bools, not_true_false}
+use Rattle.match_barrier.proofs.Counting.{not_true_is, but, but_is, count_but, count_none, count_same, test_same}
+use Rattle.match_barrier.proofs.Edges.{has_front, has_rest, same_bools}
 use Rattle.match_blossom.specs.Foldings.{IsLiving, folded}
 use Rattle.match_blossom.specs.Search.{Tree, IsFoldable, class_size, without}
 use Rattle.match_blossom.proofs.Parity.{count_add}
@@ -14,10 +14,10 @@ use Rattle.match_blossom.proofs.Pairs.{not_in_rest, not_in_cons}
 use Rattle.match_blossom.proofs.Unfolding.{class_before, base_class, class_outside, class_inside, living_outside}
 
 pub without_is : (others : List ℕ) (label : ℕ → Bool) (v : ℕ) → without others label v ≡ true → (label v ≡ true) × (has others v ≡ false)
-without_is others label v h = let both = both_true (label v) (not (has others v)) h in (both.0, not_true_is (has others v) both.1)
+without_is others label v h = let both = and_parts (label v) (not (has others v)) h in (both.0, not_true_is (has others v) both.1)
 
 pub without_of : (others : List ℕ) (label : ℕ → Bool) (v : ℕ) → label v ≡ true → has others v ≡ false → without others label v ≡ true
-without_of others label v h out = true_both (label v) (not (has others v)) h (not_false_is (has others v) out)
+without_of others label v h out = and_from (label v) (not (has others v)) h (not_from_false (has others v) out)
 
 without_no : (others : List ℕ) (label : ℕ → Bool) (v : ℕ) → label v ≡ false → without others label v ≡ false
 without_no others label v h = ap (λ (b : Bool). b && not (has others v)) h
@@ -38,12 +38,12 @@ odd_union : (n : ℕ) (part : ℕ → ℕ) (cs : List ℕ) → NoRepeats cs → 
 odd_union n part [] different odd = ap is_odd (count_none n (λ u. has [] (part u)) (λ i less. refl))
 odd_union n part (c ∷ cs) different odd =
     let rest : is_odd (count n (λ u. has cs (part u))) ≡ is_odd (length cs) = odd_union n part cs different.1 (λ d h. odd d (has_rest c cs d h)) in
-    ap is_odd (count_add n (λ u. has (c ∷ cs) (part u)) (λ u. part u == c) (λ u. has cs (part u)) (λ u less. one (part u) (either (part u == c))))
+    ap is_odd (count_add n (λ u. has (c ∷ cs) (part u)) (λ u. part u == c) (λ u. has cs (part u)) (λ u less. one (part u) (cases_Bool (part u == c))))
     ∙ odd_and (class_size n part c) (count n (λ u. has cs (part u))) (odd c (has_front c cs c refl)) ∙ ap not rest
   where
     one : (p : ℕ) → ((p == c) ≡ true) ⊎ ((p == c) ≡ false) → one_if (has (c ∷ cs) p) ≡ one_if (p == c) + one_if (has cs p)
     one p (inl yes') =
-        let same : p ≡ c = same_of_test p c yes' in
+        let same : p ≡ c = eqb-true p c yes' in
         let none : has cs p ≡ false = ap (has cs) same ∙ different.0 in
         let here : has (c ∷ cs) p ≡ true = has_front c cs p (sym same) in rw (here, yes', none) refl
     one p (inr other) =
@@ -55,14 +55,14 @@ odd_union n part (c ∷ cs) different odd =
 pub count_one : (n x : ℕ) (p : ℕ → Bool) → x < n → p x ≡ true → ((u : ℕ) → u < n → p u ≡ true → u ≡ x) → count n p ≡ 1
 count_one n x p less passes only =
     let a : count n p ≡ suc (count n (but p x)) = count_but n p x less passes in
-    let b : count n (but p x) ≡ 0 = count_none n (but p x) (λ u below. not_true_false (but p x u) (λ h. let both = but_is p x u h in both.1 (only u below both.0))) in omega arith
+    let b : count n (but p x) ≡ 0 = count_none n (but p x) (λ u below. false_from_ne_true (but p x u) (λ h. let both = but_is p x u h in both.1 (only u below both.0))) in omega arith
 
 -- nothing has been folded into a node that is not outer
 pub single_class : (g : List (List ℕ)) (mates : List ℕ) (root : ℕ) (part : ℕ → ℕ) (outer inner : ℕ → Bool) (parent order : ℕ → ℕ) → Tree g mates root part outer inner parent order
     → (x : ℕ) → IsLiving g part x → outer x ≡ false → is_odd (class_size (length g) part x) ≡ true
 single_class g mates root part outer inner parent order t x living no_outer =
     ap is_odd (count_one (length g) x (λ u. part u == x) living.0 (test_same (part x) x living.1)
-    (λ u less h. let same : part u ≡ x = same_of_test (part u) x h in sym (t.alone u less (ap outer same ∙ no_outer)) ∙ same))
+    (λ u less h. let same : part u ≡ x = eqb-true (part u) x h in sym (t.alone u less (ap outer same ∙ no_outer)) ∙ same))
 
 pub fold_keeps : (g : List (List ℕ)) (mates : List ℕ) (root : ℕ) (part : ℕ → ℕ) (outer inner : ℕ → Bool) (parent order : ℕ → ℕ) (base : ℕ) (others : List ℕ)
     → Tree g mates root part outer inner parent order → IsFoldable g mates root part outer inner order base others
@@ -91,11 +91,11 @@ fold_keeps g mates root part outer inner parent order base others t f = record {
         );
   };
   part_below = λ u less. by_class (λ x. x < length g) u base_living.0 (t.part_below u less);
-  part_part = λ u less. part_twice u less (either (has (base ∷ others) (part u)));
+  part_part = λ u less. part_twice u less (cases_Bool (has (base ∷ others) (part u)));
   outer_living = λ v h. let both = without_is others outer v h in living_after v (t.outer_living v both.0) both.1;
   inner_living = λ v h. let both = without_is others inner v h in living_after v (t.inner_living v both.0) both.1;
   not_both = λ v h. without_no others inner v (t.not_both v (without_is others outer v h).0);
-  alone = λ v less h. alone' v less h (either (has (base ∷ others) (part v)));
+  alone = λ v less h. alone' v less h (cases_Bool (has (base ∷ others) (part v)));
   root_outer = without_of others outer root t.root_outer f.not_root;
   root_free = t.root_free;
   outer_mate = λ v h ne. let both = without_is others outer v h in
@@ -105,16 +105,16 @@ fold_keeps g mates root part outer inner parent order base others t f = record {
       let o = t.inner_mate v both.0 in
       without_of others outer (get_or mates v 0) o (mate_out v both.1 (back v (t.inner_living v both.0) (t.outer_living (get_or mates v 0) o).0));
   parent_edge = λ v h. t.parent_edge v (without_is others inner v h).0;
-  parent_outer = λ v h. let i = (without_is others inner v h).0 in outer_after (parent v) (t.parent_outer v i) (either (has (base ∷ others) (part (parent v))));
-  order_parent = λ v h. let i = (without_is others inner v h).0 in order_after (parent v) v (t.order_parent v i) (either (has (base ∷ others) (part (parent v))));
+  parent_outer = λ v h. let i = (without_is others inner v h).0 in outer_after (parent v) (t.parent_outer v i) (cases_Bool (has (base ∷ others) (part (parent v))));
+  order_parent = λ v h. let i = (without_is others inner v h).0 in order_after (parent v) v (t.order_parent v i) (cases_Bool (has (base ∷ others) (part (parent v))));
   order_mate = λ v h. t.order_mate v (without_is others inner v h).0;
   root_first = λ x h. t.root_first x (without_is others outer x h).0;
   order_one = λ x y h k e. t.order_one x y (without_is others outer x h).0 (without_is others outer y k).0 e;
   odd_classes = λ o h. let both = without_is others outer o h in elim (cases_eq o base) [
     | inl e ↦ subst (λ (x : ℕ). is_odd (class_size (length g) (folded part base others) x) ≡ true) (sym e) odd_base
     | inr ne ↦ ap is_odd (count_same (length g) (λ u. folded part base others u == o) (λ u. part u == o) (λ u less. same_bools (folded part base others u == o) (part u == o)
-        (λ k. test_same (part u) o (class_before part base others u o (same_of_test (folded part base others u) o k) ne))
-        (λ k. let same = same_of_test (part u) o k in test_same (folded part base others u) o (class_outside part base others u (ap (has (base ∷ others)) same ∙ not_in_cons base others o (λ e. ne (sym e)) both.1) ∙ same))))
+        (λ k. test_same (part u) o (class_before part base others u o (eqb-true (folded part base others u) o k) ne))
+        (λ k. let same = eqb-true (part u) o k in test_same (folded part base others u) o (class_outside part base others u (ap (has (base ∷ others)) same ∙ not_in_cons base others o (λ e. ne (sym e)) both.1) ∙ same))))
         ∙ t.odd_classes o both.0
   ];
 }
@@ -138,13 +138,13 @@ fold_keeps g mates root part outer inner parent order base others t f = record {
     ]
 
     not_other : (v : ℕ) → IsLiving g (folded part base others) v → has others v ≡ false
-    not_other v living' = not_true_false (has others v) (λ h.
+    not_other v living' = false_from_ne_true (has others v) (λ h.
         let living = f.cycle.living v (has_rest base others v h) in
         let e : base ≡ v = sym (class_inside part base others v (ap (has (base ∷ others)) living.1 ∙ has_rest base others v h)) ∙ living'.1 in
         false≢true (sym f.cycle.different.0 ∙ ap (has others) e ∙ h))
 
     mate_out : (v : ℕ) → has others v ≡ false → get_or mates (get_or mates v 0) 0 ≡ v → has others (get_or mates v 0) ≡ false
-    mate_out v out back' = not_true_false (has others (get_or mates v 0)) (λ h. false≢true (sym out ∙ ap (has others) (sym back') ∙ f.mated (get_or mates v 0) h))
+    mate_out v out back' = false_from_ne_true (has others (get_or mates v 0)) (λ h. false≢true (sym out ∙ ap (has others) (sym back') ∙ f.mated (get_or mates v 0) h))
 
     back : (v : ℕ) → IsLiving g part v → get_or mates v 0 < length g → get_or mates (get_or mates v 0) 0 ≡ v
     back v living low = (t.matching.mate v living refl (λ e. absurd (omega arith))).3
@@ -172,14 +172,14 @@ fold_keeps g mates root part outer inner parent order base others t f = record {
     alone' v less h (inl in') = absurd (false≢true (sym h ∙ ap (without others outer) (class_inside part base others v in') ∙ without_of others outer base f.base_outer f.cycle.different.0))
     alone' v less h (inr out) =
         let e : folded part base others v ≡ part v = class_outside part base others v out in
-        e ∙ t.alone v less (not_true_false (outer (part v)) (λ k. false≢true (sym h ∙ ap (without others outer) e ∙ without_of others outer (part v) k (not_in_rest base others (part v) out).1)))
+        e ∙ t.alone v less (false_from_ne_true (outer (part v)) (λ k. false≢true (sym h ∙ ap (without others outer) e ∙ without_of others outer (part v) k (not_in_rest base others (part v) out).1)))
 
     outer_after : (u : ℕ) → outer (part u) ≡ true → (has (base ∷ others) (part u) ≡ true) ⊎ (has (base ∷ others) (part u) ≡ false) → without others outer (folded part base others u) ≡ true
     outer_after u o (inl in') = ap (without others outer) (class_inside part base others u in') ∙ without_of others outer base f.base_outer f.cycle.different.0
     outer_after u o (inr out) = ap (without others outer) (class_outside part base others u out) ∙ without_of others outer (part u) o (not_in_rest base others (part u) out).1
 
     base_first : (x : ℕ) → has (base ∷ others) x ≡ true → order base ≤ order x
-    base_first x h = elim (either (has others x)) [
+    base_first x h = elim (cases_Bool (has others x)) [
       | inl in' ↦ let k = f.first x in' in omega arith
       | inr out ↦ elim (cases_eq base x) [
         | inl e ↦ let k : order base ≡ order x = ap order e in omega arith
@@ -192,7 +192,7 @@ fold_keeps g mates root part outer inner parent order base others t f = record {
     order_after u v less (inr out) = let e : order (folded part base others u) ≡ order (part u) = ap order (class_outside part base others u out) in omega arith
 
     odd_member : (x : ℕ) → has (base ∷ others) x ≡ true → is_odd (class_size (length g) part x) ≡ true
-    odd_member x h = elim (either (outer x)) [
+    odd_member x h = elim (cases_Bool (outer x)) [
       | inl o ↦ t.odd_classes x o
       | inr no_outer ↦ single_class g mates root part outer inner parent order t x (f.cycle.living x h) no_outer
     ]
@@ -200,6 +200,6 @@ fold_keeps g mates root part outer inner parent order base others t f = record {
     odd_base : is_odd (class_size (length g) (folded part base others) base) ≡ true
     odd_base =
         ap is_odd (count_same (length g) (λ u. folded part base others u == base) (λ u. has (base ∷ others) (part u)) (λ u less. same_bools (folded part base others u == base) (has (base ∷ others) (part u))
-        (λ k. base_class part base others u (same_of_test (folded part base others u) base k))
+        (λ k. base_class part base others u (eqb-true (folded part base others u) base k))
         (λ k. test_same (folded part base others u) base (class_inside part base others u k))))
         ∙ odd_union (length g) part (base ∷ others) f.cycle.different odd_member ∙ ap not f.even

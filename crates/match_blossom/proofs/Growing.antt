@@ -1,9 +1,8 @@
 -- One more inner node, and its mate, keep the tree.
 use Rattle.std.proofs.Common.{◌≡◌, ◌≢◌, ℕ, ◌+◌, List, length, get_or, Bool, true, false, refl, ap, sym, ◌∙◌, inl, inr, arith, subst}
-use Rattle.std.proofs.lemmas.Bool.{cases_eq, false≢true}
+use Rattle.std.proofs.lemmas.Bool.{cases_eq, false≢true, false_from_ne_true}
 use Rattle.match_barrier.specs.Graph.{adjacent}
 use Rattle.match_barrier.specs.Barrier.{is_odd}
-use Rattle.match_barrier.proofs.Edges.{not_true_false}
 use Rattle.match_blossom.specs.Foldings.{IsLiving}
 use Rattle.match_blossom.specs.Search.{Tree, Grown, class_size}
 use Rattle.match_blossom.proofs.Folded.{single_class}
@@ -27,7 +26,7 @@ grow_keeps g mates root part outer inner outer' inner' parent order parent' orde
     | inl e ↦ ap inner' e ∙ s.inner_old w w_not_v ∙ w_inner
     | inr ne ↦ let o : outer x ≡ true = sym (s.outer_old x ne) ∙ h in s.inner_old x (outer_not_v x o) ∙ t.not_both x o
   ];
-  alone = λ x less h. t.alone x less (not_true_false (outer (part x)) (λ o. false≢true (sym h ∙ more_outer (part x) o)));
+  alone = λ x less h. t.alone x less (false_from_ne_true (outer (part x)) (λ o. false≢true (sym h ∙ more_outer (part x) o)));
   root_outer = more_outer root t.root_outer;
   root_free = t.root_free;
   outer_mate = λ x h ne. elim (cases_eq x w) [
@@ -130,13 +129,13 @@ grow_keeps g mates root part outer inner outer' inner' parent order parent' orde
     back = ap (λ (x : ℕ). get_or mates x 0) (sym s.mate) ∙ r.3
 
     w_outer : outer w ≡ false
-    w_outer = not_true_false (outer w) (λ h. elim (cases_eq w root) [
+    w_outer = false_from_ne_true (outer w) (λ h. elim (cases_eq w root) [
       | inl e ↦ let k = s.below in let a : get_or mates w 0 ≡ length g = ap (λ (x : ℕ). get_or mates x 0) e ∙ t.root_free in let b = back in absurd (omega arith)
       | inr ne ↦ false≢true (sym v_inner ∙ ap inner (sym back) ∙ t.outer_mate w h ne)
     ])
 
     w_inner : inner w ≡ false
-    w_inner = not_true_false (inner w) (λ h. false≢true (sym v_outer ∙ ap outer (sym back) ∙ t.inner_mate w h))
+    w_inner = false_from_ne_true (inner w) (λ h. false≢true (sym v_outer ∙ ap outer (sym back) ∙ t.inner_mate w h))
 
     outer_not_v : (x : ℕ) → outer x ≡ true → x ≢ v
     outer_not_v x o e = false≢true (sym v_outer ∙ ap outer (sym e) ∙ o)

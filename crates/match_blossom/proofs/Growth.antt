@@ -1,9 +1,8 @@
 -- What growing keeps of the queue, the touched nodes and the pointers.
 use Rattle.std.proofs.Common.{◌≡◌, ◌≢◌, ℕ, ◌+◌, ◌≤◌, ◌<◌, List, [], ◌∷◌, length, set, true, false, refl, ap, sym, ◌∙◌, inl, inr, arith, subst}
-use Rattle.std.proofs.lemmas.Bool.{cases_eq, cases_lt}
+use Rattle.std.proofs.lemmas.Bool.{cases_eq, cases_lt, false_from_ne_true}
 use Rattle.std.proofs.lemmas.List.{get_or-set_same, get_or-set_other, length-set}
 use Rattle.match_barrier.specs.Graph.{has}
-use Rattle.match_barrier.proofs.Edges.{not_true_false}
 use Rattle.match_blossom.specs.declared.tree.Label.{Label}
 use Rattle.match_blossom.specs.declared.tree.Label.TheVariants.{Outside, Outer, Inner}
 use Rattle.match_blossom.specs.Labels.{at, is_outer, is_inner}
@@ -27,7 +26,7 @@ pub part_above : (g : List (List ℕ)) (foldings : List Folding) (u : ℕ) → F
 part_above g [] u f above = refl
 part_above g (f ∷ earlier) u h above =
     let e : part_of earlier u ≡ u = part_above g earlier u h.2 above in
-    class_outside (part_of earlier) f.base f.others u (ap (has (f.base ∷ f.others)) e ∙ not_true_false (has (f.base ∷ f.others) u) (λ k. let low = (h.0.living u k).0 in omega arith)) ∙ e
+    class_outside (part_of earlier) f.base f.others u (ap (has (f.base ∷ f.others)) e ∙ false_from_ne_true (has (f.base ∷ f.others) u) (λ k. let low = (h.0.living u k).0 in omega arith)) ∙ e
 
 pub queue_grows : (g : List (List ℕ)) (mates : List ℕ) (root : ℕ) (labels labels' : List Label) (part parent order : ℕ → ℕ) (queue : List ℕ) (queued v w : ℕ) → Tree g mates root part (is_outer labels) (is_inner labels) parent order
     → GrownLabels g part labels labels' v w → IsQueue g labels part queue queued → queued < length queue → IsQueue g labels' part (set queue queued w) (queued + 1)

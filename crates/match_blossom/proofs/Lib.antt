@@ -20,3 +20,4 @@ pub mod Begins
 pub mod Releasing
 pub mod Scanning
 pub mod Queued
+pub mod Shortening

@@ -1,11 +1,11 @@
 -- Two ways up that meet, and the edge between their ends, are a cycle that may be folded.
 use Rattle.std.proofs.Common.{◌≡◌, ℕ, zero, suc, ◌+◌, ◌<◌, List, [], ◌∷◌, ◌++◌, length, get_or, reverse, Bool, true, false, not, refl, ap, sym, ◌∙◌, inl, inr, arith, subst}
 use Rattle.std.specs.Prelude.{◌⊎◌}
-use Rattle.std.proofs.lemmas.Bool.{false≢true}
+use Rattle.std.proofs.lemmas.Bool.{false≢true, false_from_ne_true}
 use Rattle.match_barrier.specs.Graph.{has, IsGraph, NoRepeats}
 use Rattle.match_barrier.specs.Barrier.{is_odd}
 use Rattle.match_barrier.proofs.Counting.{has_cases}
-use Rattle.match_barrier.proofs.Edges.{has_front, has_rest, not_true_false}
+use Rattle.match_barrier.proofs.Edges.{has_front, has_rest}
 use Rattle.match_blossom.specs.Foldings.{IsLiving, Touch, Chain}
 use Rattle.match_blossom.specs.Search.{Tree, IsFoldable}
 use Rattle.match_blossom.specs.Climbing.{Climb}
@@ -53,7 +53,7 @@ has_first (x ∷ xs) zs z h = elim (has_cases x xs z h) [
 
 round_different : (xs zs : List ℕ) → NoRepeats xs → NoRepeats zs → ((z : ℕ) → has xs z ≡ true → has zs z ≡ true → ⊥) → NoRepeats (round xs zs)
 round_different [] zs d e none = e
-round_different (x ∷ xs) zs d e none = round_different xs (x ∷ zs) d.1 (not_true_false (has zs x) (none x (has_front x xs x refl)), e)
+round_different (x ∷ xs) zs d e none = round_different xs (x ∷ zs) d.1 (false_from_ne_true (has zs x) (none x (has_front x xs x refl)), e)
     (λ z h k. elim (has_cases x zs z k) [
       | inl same ↦ false≢true (sym d.0 ∙ ap (has xs) same ∙ h)
       | inr rest ↦ none z (has_rest x xs z h) rest
@@ -99,7 +99,7 @@ foldable g mates root part outer inner parent order is t a b xs ys base up_a up_
       | inr rest ↦ elim ((facts z rest).0) [ inl o ↦ t.outer_living z o | inr i ↦ t.inner_living z i ]
     ];
     different = (
-      not_true_false (has (round xs ys) base) (λ h. let k = (facts base h).1 in omega arith),
+      false_from_ne_true (has (round xs ys) base) (λ h. let k = (facts base h).1 in omega arith),
       round_different xs ys (climb_different g mates root part outer inner parent order t a xs base up_a) (climb_different g mates root part outer inner parent order t b ys base up_b) apart,
     );
     closed = subst (λ (zs : List ℕ). Chain g part (base ∷ zs)) (sym (round_append xs ys (base ∷ [])))
@@ -109,7 +109,7 @@ foldable g mates root part outer inner parent order is t a b xs ys base up_a up_
   };
   even = ap is_odd (round_length xs ys) ∙ odd_even (length xs) (length ys) (even_climb mates part parent outer inner order a xs base up_a) ∙ even_climb mates part parent outer inner order b ys base up_b;
   base_outer = base_outer;
-  not_root = not_true_false (has (round xs ys) root) (λ h. let k = (facts root h).1 in let l = t.root_first base base_outer in absurd (omega arith));
+  not_root = false_from_ne_true (has (round xs ys) root) (λ h. let k = (facts root h).1 in let l = t.root_first base base_outer in absurd (omega arith));
   labelled = λ z h. (facts z h).0;
   first = λ z h. let k = (facts z h).1 in omega arith;
   mated = λ z h. elim (round_has xs ys z h) [

@@ -1,12 +1,12 @@
 -- Pairing off a chain.
 use Rattle.std.proofs.Common.{◌≡◌, ◌≢◌, ℕ, zero, suc, ◌+◌, ◌≤◌, ◌<◌, List, [], ◌∷◌, length, get_or, set, drop, Bool, true, false, refl, ap, sym, ◌∙◌, inl, inr, arith, subst}
 use Rattle.std.specs.Prelude.{not}
-use Rattle.std.proofs.lemmas.Bool.{cases_eq, false≢true}
+use Rattle.std.proofs.lemmas.Bool.{cases_eq, false≢true, false_from_ne_true}
 use Rattle.std.proofs.lemmas.List.{get_or-set_same, get_or-set_other, length-set, drop_more}
 use Rattle.match_barrier.specs.Graph.{has, IsGraph, NoRepeats}
 use Rattle.match_barrier.specs.Barrier.{is_odd}
 use Rattle.match_barrier.proofs.Counting.{has_cases}
-use Rattle.match_barrier.proofs.Edges.{has_front, has_rest, not_true_false}
+use Rattle.match_barrier.proofs.Edges.{has_front, has_rest}
 use Rattle.match_blossom.specs.Foldings.{IsLiving, Touch, IsMatchingBut, Chain, pair_off}
 
 pub touch_back : (g : List (List ℕ)) (part : ℕ → ℕ) (x y : ℕ) → IsGraph g → Touch g part x y → Touch g part y x
@@ -21,10 +21,10 @@ touch_back g part x y is t = record {
 
 -- what a list has not, its rest has not
 pub not_in_rest : (y : ℕ) (xs : List ℕ) (x : ℕ) → has (y ∷ xs) x ≡ false → (y ≢ x) × (has xs x ≡ false)
-not_in_rest y xs x h = ((λ e. false≢true (sym h ∙ has_front y xs x e)), not_true_false (has xs x) (λ k. false≢true (sym h ∙ has_rest y xs x k)))
+not_in_rest y xs x h = ((λ e. false≢true (sym h ∙ has_front y xs x e)), false_from_ne_true (has xs x) (λ k. false≢true (sym h ∙ has_rest y xs x k)))
 
 pub not_in_cons : (y : ℕ) (xs : List ℕ) (x : ℕ) → y ≢ x → has xs x ≡ false → has (y ∷ xs) x ≡ false
-not_in_cons y xs x ne h = not_true_false (has (y ∷ xs) x) (λ k. elim (has_cases y xs x k) [
+not_in_cons y xs x ne h = false_from_ne_true (has (y ∷ xs) x) (λ k. elim (has_cases y xs x k) [
   | inl same ↦ ne same
   | inr rest ↦ false≢true (sym h ∙ rest)
 ])

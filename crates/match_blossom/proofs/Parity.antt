@@ -1,11 +1,11 @@
 -- A closed class with an odd number of nodes has an odd part.
 use Rattle.std.proofs.Common.{◌≡◌, ℕ, zero, suc, ◌+◌, ◌≤◌, ◌<◌, List, [], ◌∷◌, length, Bool, true, false, refl, ap, sym, ◌∙◌, inl, inr, arith}
 use Rattle.std.specs.Prelude.{◌==◌, not, ◌&&◌, ◌⊎◌, nat_lt}
-use Rattle.std.proofs.lemmas.Bool.{cases_eq, cases_lt, false≢true}
+use Rattle.std.proofs.lemmas.Bool.{cases_eq, cases_lt, false≢true, eqb-true, cases_Bool, and_parts, and_from}
 use Rattle.std.proofs.lemmas.Bool.Decides.{nat_tests}
 use Rattle.match_barrier.specs.Graph.{has, adjacent, IsGraph}
 use Rattle.match_barrier.specs.Barrier.{IsLeft, Walk, Joined, NamesParts, one_if, count, is_odd, is_member, part_size, names_odd_part}
-use Rattle.match_barrier.proofs.Counting.{either, both_true, true_both, test_same, same_of_test, count_same, count_none, but, but_is, count_but_le}
+use Rattle.match_barrier.proofs.Counting.{test_same, count_same, count_none, but, but_is, count_but_le}
 use Rattle.match_barrier.proofs.Edges.{same_bools}
 use Rattle.match_barrier.proofs.Walks.{joined_sym, name_left, name_name}
 use Rattle.match_barrier.proofs.Tutte.{member_is, is_member_of}
@@ -58,10 +58,10 @@ pub record OddPartIn (g : List (List ℕ)) (s : List ℕ) (name : ℕ → ℕ) (
   pub odd : names_odd_part g s name node ≡ true
 
 named_of : (class : ℕ → Bool) (name : ℕ → ℕ) (k v : ℕ) → class v ≡ true → name v ≡ k → named class name k v ≡ true
-named_of class name k v inside same = true_both (class v) (name v == k) inside (test_same (name v) k same)
+named_of class name k v inside same = and_from (class v) (name v == k) inside (test_same (name v) k same)
 
 named_is : (class : ℕ → Bool) (name : ℕ → ℕ) (k v : ℕ) → named class name k v ≡ true → (class v ≡ true) × (name v ≡ k)
-named_is class name k v h = let both = both_true (class v) (name v == k) h in (both.0, same_of_test (name v) k both.1)
+named_is class name k v h = let both = and_parts (class v) (name v == k) h in (both.0, eqb-true (name v) k both.1)
 
 -- where a node of the class has the name k, k is in the class and is its own name
 name_inside : (g : List (List ℕ)) (s : List ℕ) (name : ℕ → ℕ) (class : ℕ → Bool) → IsGraph g → NamesParts g s name → IsClosed g s class → (k v : ℕ) → v < length g → named class name k v ≡ true → (class k ≡ true) × (name k ≡ k)
@@ -86,7 +86,7 @@ whole_part g s name class is names closed k below inside v less = same_bools (na
 -- the nodes of the class with one name are an odd part, or their number is even
 one_name : (g : List (List ℕ)) (s : List ℕ) (name : ℕ → ℕ) (class : ℕ → Bool) → IsGraph g → NamesParts g s name → IsClosed g s class → (k : ℕ) → k < length g
     → OddPartIn g s name class ⊎ (is_odd (count (length g) (named class name k)) ≡ false)
-one_name g s name class is names closed k less = by (either (named class name k k)) (either (is_odd (count (length g) (named class name k))))
+one_name g s name class is names closed k less = by (cases_Bool (named class name k k)) (cases_Bool (is_odd (count (length g) (named class name k))))
   where
     none : named class name k k ≡ false → (v : ℕ) → v < length g → (named class name k v ≡ true) ⊎ (named class name k v ≡ false) → named class name k v ≡ false
     none not_name v below (inr h) = h
@@ -94,7 +94,7 @@ one_name g s name class is names closed k less = by (either (named class name k 
 
     by : (named class name k k ≡ true) ⊎ (named class name k k ≡ false) → (is_odd (count (length g) (named class name k)) ≡ true) ⊎ (is_odd (count (length g) (named class name k)) ≡ false)
         → OddPartIn g s name class ⊎ (is_odd (count (length g) (named class name k)) ≡ false)
-    by (inr not_name) size = inr (ap is_odd (count_none (length g) (named class name k) (λ v below. none not_name v below (either (named class name k v)))))
+    by (inr not_name) size = inr (ap is_odd (count_none (length g) (named class name k) (λ v below. none not_name v below (cases_Bool (named class name k v)))))
     by (inl a_name) (inr even) = inr even
     by (inl a_name) (inl odd) =
         let both = named_is class name k k a_name in
@@ -103,7 +103,7 @@ one_name g s name class is names closed k less = by (either (named class name k 
           node = k;
           below = less;
           inside = both.0;
-          odd = true_both (is_member s name k k) (is_odd (part_size g s name k)) (is_member_of s name k k (closed.left k less both.0) both.1)
+          odd = and_from (is_member s name k k) (is_odd (part_size g s name k)) (is_member_of s name k k (closed.left k less both.0) both.1)
               (ap is_odd (sym (count_same (length g) (named class name k) (is_member s name k) all)) ∙ odd);
         })
 
@@ -143,12 +143,12 @@ odd_part_in g s name class is names closed odd = by (names_below g s name class 
 
 -- Where each number that passes p is the image of one that passes q, no more pass p than q.
 pub covered_count : (m : ℕ) (q : ℕ → Bool) (image : ℕ → ℕ) (n : ℕ) (p : ℕ → Bool) → ((i : ℕ) → i < n → p i ≡ true → (x : ℕ) × (x < m) × (q x ≡ true) × (image x ≡ i)) → count n p ≤ count m q
-covered_count zero q image n p from = let h : count n p ≡ 0 = count_none n p (λ i less. by i less (either (p i))) in omega arith
+covered_count zero q image n p from = let h : count n p ≡ 0 = count_none n p (λ i less. by i less (cases_Bool (p i))) in omega arith
   where
     by : (i : ℕ) → i < n → (p i ≡ true) ⊎ (p i ≡ false) → p i ≡ false
     by i less (inr h) = h
     by i less (inl h) = let (x, below, passes, is) = from i less h in absurd (omega arith)
-covered_count (suc m) q image n p from = elim (either (q m)) [
+covered_count (suc m) q image n p from = elim (cases_Bool (q m)) [
   | inl passes ↦
       let h = covered_count m q image n (but p (image m)) (λ i less b. let both = but_is p (image m) i b in let (x, below, pass, is) = from i less both.0 in
       elim (cases_eq x m) [

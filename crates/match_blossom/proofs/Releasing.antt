@@ -3,9 +3,9 @@ use Rattle.std.proofs.Common.{drop-cons, ◌-◌, ◌≡◌, ℕ, zero, suc, ◌
 use Rattle.std.specs.Prelude.{cond, ◌⊎◌}
 use Rattle.std.specs.List.{All}
 use Rattle.std.proofs.lemmas.List.{drop-drop, length-drop, length-take-le}
+use Rattle.std.proofs.lemmas.Bool.{cases_Bool}
 use Rattle.match_barrier.specs.Graph.{has}
 use Rattle.match_barrier.specs.Barrier.{is_odd}
-use Rattle.match_barrier.proofs.Counting.{either}
 use Rattle.match_barrier.proofs.Edges.{has_at, has_rest}
 use Rattle.match_blossom.specs.Labels.{at}
 use Rattle.match_blossom.specs.Pointers.{Falls, Points, Leads, release}
@@ -42,11 +42,11 @@ latest sizes nodes height top size less low size_is fits =
 -- Releasing the others of the latest cycle.
 pub falls_release : (pointers pointers' order others : List ℕ) → Falls pointers order → ((u : ℕ) → at pointers' u ≡ cond (has others u) u (at pointers u)) → length pointers' ≡ length pointers → Falls pointers' order
 falls_release pointers pointers' order others f new same = record {
-  below = λ u within. elim (either (has others u)) [
+  below = λ u within. elim (cases_Bool (has others u)) [
     | inl h ↦ let e : at pointers' u ≡ u = new u ∙ by_member (has others u) u (at pointers u) h in omega arith
     | inr h ↦ let e : at pointers' u ≡ at pointers u = new u ∙ by_other (has others u) u (at pointers u) h in let low = f.below u (omega arith) in omega arith
   ];
-  lower = λ u within away. elim (either (has others u)) [
+  lower = λ u within away. elim (cases_Bool (has others u)) [
     | inl h ↦ absurd (away (new u ∙ by_member (has others u) u (at pointers u) h))
     | inr h ↦
         let e : at pointers' u ≡ at pointers u = new u ∙ by_other (has others u) u (at pointers u) h in
@@ -56,7 +56,7 @@ falls_release pointers pointers' order others f new same = record {
 }
 
 pub base_release : (pointers pointers' before : ℕ → ℕ) (others : List ℕ) → ((u : ℕ) → pointers' u ≡ cond (has others u) u (pointers u)) → ((u : ℕ) → (pointers u ≡ before u) ⊎ (pointers u ≡ u)) → (u : ℕ) → (pointers' u ≡ before u) ⊎ (pointers' u ≡ u)
-base_release pointers pointers' before others new old u = elim (either (has others u)) [
+base_release pointers pointers' before others new old u = elim (cases_Bool (has others u)) [
   | inl h ↦ inr (new u ∙ by_member (has others u) u (pointers u) h)
   | inr h ↦ elim (old u) [ inl e ↦ inl (new u ∙ by_other (has others u) u (pointers u) h ∙ e) | inr e ↦ inr (new u ∙ by_other (has others u) u (pointers u) h ∙ e) ]
 ]

@@ -1,11 +1,11 @@
 -- A cycle may begin at any of its nodes.
 use Rattle.std.proofs.Common.{◌≡◌, ℕ, zero, suc, ◌<◌, List, [], ◌∷◌, ◌++◌, length, get_or, take, drop, append-nil, drop-cons, true, refl, ap, sym, ◌∙◌, inl, inr, arith, subst}
 use Rattle.std.specs.Prelude.{◌⊎◌}
-use Rattle.std.proofs.lemmas.Bool.{false≢true}
+use Rattle.std.proofs.lemmas.Bool.{false≢true, false_from_ne_true}
 use Rattle.std.proofs.lemmas.List.{append_assoc, length-append, take-append-drop}
 use Rattle.match_barrier.specs.Graph.{has, NoRepeats}
 use Rattle.match_barrier.proofs.Counting.{has_cases}
-use Rattle.match_barrier.proofs.Edges.{has_front, has_rest, not_true_false, same_bools}
+use Rattle.match_barrier.proofs.Edges.{has_front, has_rest, same_bools}
 use Rattle.match_blossom.specs.Foldings.{Chain, IsCycle}
 
 pub has_left : (xs ys : List ℕ) (z : ℕ) → has xs z ≡ true → has (xs ++ ys) z ≡ true
@@ -37,7 +37,7 @@ has_turned xs ys z h = elim (has_either xs ys z h) [
 
 different_left : (xs ys : List ℕ) → NoRepeats (xs ++ ys) → NoRepeats xs
 different_left [] ys d = tt
-different_left (x ∷ xs) ys d = (not_true_false (has xs x) (λ h. false≢true (sym d.0 ∙ has_left xs ys x h)), different_left xs ys d.1)
+different_left (x ∷ xs) ys d = (false_from_ne_true (has xs x) (λ h. false≢true (sym d.0 ∙ has_left xs ys x h)), different_left xs ys d.1)
 
 different_right : (xs ys : List ℕ) → NoRepeats (xs ++ ys) → NoRepeats ys
 different_right [] ys d = d
@@ -53,7 +53,7 @@ apart (x ∷ xs) ys d z h k = elim (has_cases x xs z h) [
 different_join : (xs ys : List ℕ) → NoRepeats xs → NoRepeats ys → ((z : ℕ) → has xs z ≡ true → has ys z ≡ true → ⊥) → NoRepeats (xs ++ ys)
 different_join [] ys d e no_both = e
 different_join (x ∷ xs) ys d e no_both = (
-  not_true_false (has (xs ++ ys) x) (λ h. elim (has_either xs ys x h) [
+  false_from_ne_true (has (xs ++ ys) x) (λ h. elim (has_either xs ys x h) [
     | inl left ↦ false≢true (sym d.0 ∙ left)
     | inr right ↦ no_both x (has_front x xs x refl) right
   ]),

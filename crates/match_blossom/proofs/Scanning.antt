@@ -2,12 +2,12 @@
 use Rattle.std.proofs.Common.{◌≡◌, ◌≢◌, ℕ, zero, suc, ◌+◌, ◌<◌, ◌≤◌, List, [], ◌∷◌, ◌++◌, length, get_or, set, take, replicate, Bool, true, false, refl, ap, sym, ◌∙◌, inl, inr, arith, subst}
 use Rattle.std.specs.Prelude.{◌⊎◌}
 use Rattle.std.specs.Bool.{MatchBool}
-use Rattle.std.proofs.lemmas.Bool.{cases_eq, false≢true}
+use Rattle.std.proofs.lemmas.Bool.{cases_eq, false≢true, false_from_ne_true}
 use Rattle.std.proofs.lemmas.List.{length_push, length-take-le, get_or-take, take_more_set, length-replicate}
 use Rattle.match_barrier.specs.Graph.{has, adjacent, IsGraph}
 use Rattle.match_barrier.specs.Barrier.{count, one_if}
 use Rattle.match_barrier.proofs.Counting.{count_same}
-use Rattle.match_barrier.proofs.Edges.{has_at, has_push_new, has_push_old, has_push_cases, no_repeats_push, same_bools, not_true_false}
+use Rattle.match_barrier.proofs.Edges.{has_at, has_push_new, has_push_old, has_push_cases, no_repeats_push, same_bools}
 use Rattle.match_barrier.proofs.Naming.{count_more, place_of}
 use Rattle.match_barrier.proofs.Tutte.{no_perfect}
 use Rattle.match_barrier.specs.Matching.{IsPerfect}
@@ -24,13 +24,14 @@ use Rattle.match_blossom.proofs.Ending.{stuck_of_tree}
 use Rattle.match_blossom.proofs.Failure.{stuck_has_barrier}
 
 pub lengths_refl : (f : AlternatingTree) → KeepsLengths f f
-lengths_refl f = record { labels = refl; parent = refl; base = refl; order = refl; touched = refl; queue = refl; nodes = refl; sizes = refl }
+lengths_refl f = record { labels = refl; parent = refl; base = refl; cycle_base = refl; order = refl; touched = refl; queue = refl; nodes = refl; sizes = refl }
 
 pub lengths_trans : (a b c : AlternatingTree) → KeepsLengths a b → KeepsLengths b c → KeepsLengths a c
 lengths_trans a b c p q = record {
   labels = q.labels ∙ p.labels;
   parent = q.parent ∙ p.parent;
   base = q.base ∙ p.base;
+  cycle_base = q.cycle_base ∙ p.cycle_base;
   order = q.order ∙ p.order;
   touched = q.touched ∙ p.touched;
   queue = q.queue ∙ p.queue;
@@ -179,13 +180,13 @@ inner_more labels n set lists inner = record {
   ];
   below = λ v h. elim (has_push_cases set n v h) [ inl old ↦ let k = lists.below v old in omega arith | inr new ↦ omega arith ];
   size = let a = length_push set n in let b = count_more n (is_inner labels) in let k : one_if (is_inner labels n) ≡ 1 = ap one_if inner in let s = lists.size in omega arith;
-  different = no_repeats_push set n lists.different (not_true_false (has set n) (λ h. let k = lists.below n h in omega arith));
+  different = no_repeats_push set n lists.different (false_from_ne_true (has set n) (λ h. let k = lists.below n h in omega arith));
 }
 
 pub inner_skip : (labels : List Label) (n : ℕ) (set : List ℕ) → ListsInner labels n set → is_inner labels n ≡ false → ListsInner labels (n + 1) set
 inner_skip labels n set lists inner = record {
   members = λ v less. elim (cases_eq v n) [
-    | inl e ↦ not_true_false (has set v) (λ h. let k = lists.below v h in omega arith) ∙ sym (ap (is_inner labels) e ∙ inner)
+    | inl e ↦ false_from_ne_true (has set v) (λ h. let k = lists.below v h in omega arith) ∙ sym (ap (is_inner labels) e ∙ inner)
     | inr ne ↦ lists.members v (omega arith)
   ];
   below = λ v h. let k = lists.below v h in omega arith;

@@ -1,12 +1,12 @@
 -- The steps of a search on its arrays.
 use Rattle.std.proofs.Common.{◌≡◌, ◌≢◌, ℕ, zero, suc, ◌+◌, ◌≤◌, ◌<◌, List, [], ◌∷◌, length, get_or, set, Bool, true, false, refl, ap, sym, ◌∙◌, inl, inr, arith, subst}
 use Rattle.std.specs.Prelude.{cond, ◌==◌, ◌&&◌, not}
-use Rattle.std.proofs.lemmas.Bool.{cases_eq, false≢true}
+use Rattle.std.proofs.lemmas.Bool.{cases_eq, false≢true, eqb-true, and_parts, and_from, not_from_false, false_from_ne_true}
 use Rattle.std.proofs.lemmas.List.{get_or-set_same, get_or-set_other, length-set}
 use Rattle.match_barrier.specs.Graph.{has, adjacent, IsGraph, NoRepeats}
 use Rattle.match_barrier.specs.Barrier.{count, is_odd, one_if}
-use Rattle.match_barrier.proofs.Counting.{both_true, true_both, not_true_is, not_false_is, but, but_other, count_but, test_same, same_of_test}
-use Rattle.match_barrier.proofs.Edges.{has_front, has_rest, not_true_false}
+use Rattle.match_barrier.proofs.Counting.{not_true_is, but, but_other, count_but, test_same}
+use Rattle.match_barrier.proofs.Edges.{has_front, has_rest}
 use Rattle.match_barrier.proofs.Flooding.{count_less}
 use Rattle.match_blossom.specs.declared.tree.Label.{Label}
 use Rattle.match_blossom.specs.declared.tree.Label.TheVariants.{Outside, Outer, Inner}
@@ -44,13 +44,13 @@ inner_other labels v x l ne = ap says_inner (get_or-set_other labels v x l Outsi
 
 unlabelled_is : (part : ℕ → ℕ) (outer inner : ℕ → Bool) (u : ℕ) → is_unlabelled part outer inner u ≡ true → (part u ≡ u) × (outer u ≡ false) × (inner u ≡ false)
 unlabelled_is part outer inner u h =
-    let a = both_true (part u == u) (not (outer u) && not (inner u)) h in
-    let b = both_true (not (outer u)) (not (inner u)) a.1 in
-    (same_of_test (part u) u a.0, not_true_is (outer u) b.0, not_true_is (inner u) b.1)
+    let a = and_parts (part u == u) (not (outer u) && not (inner u)) h in
+    let b = and_parts (not (outer u)) (not (inner u)) a.1 in
+    (eqb-true (part u) u a.0, not_true_is (outer u) b.0, not_true_is (inner u) b.1)
 
 unlabelled_of : (part : ℕ → ℕ) (outer inner : ℕ → Bool) (u : ℕ) → part u ≡ u → outer u ≡ false → inner u ≡ false → is_unlabelled part outer inner u ≡ true
 unlabelled_of part outer inner u living no_outer no_inner =
-    true_both (part u == u) (not (outer u) && not (inner u)) (test_same (part u) u living) (true_both (not (outer u)) (not (inner u)) (not_false_is (outer u) no_outer) (not_false_is (inner u) no_inner))
+    and_from (part u == u) (not (outer u) && not (inner u)) (test_same (part u) u living) (and_from (not (outer u)) (not (inner u)) (not_from_false (outer u) no_outer) (not_from_false (inner u) no_inner))
 
 -- what is known of a node without label that is to become inner, and of its mate
 record Unlabelled (g : List (List ℕ)) (mates : List ℕ) (part : ℕ → ℕ) (outer inner : ℕ → Bool) (v w : ℕ) : Type 0 where
@@ -80,11 +80,11 @@ unlabelled_pair g mates root part outer inner parent order v t below no_outer no
       v_inner = v_inner;
       w_below = matched;
       w_class = r.0.1;
-      w_outer = not_true_false (outer w) (λ h. elim (cases_eq w root) [
+      w_outer = false_from_ne_true (outer w) (λ h. elim (cases_eq w root) [
         | inl e ↦ let a : get_or mates w 0 ≡ length g = ap (λ (x : ℕ). get_or mates x 0) e ∙ t.root_free in omega arith
         | inr ne ↦ false≢true (sym v_inner ∙ ap inner (sym back) ∙ t.outer_mate w h ne)
       ]);
-      w_inner = not_true_false (inner w) (λ h. false≢true (sym v_outer ∙ ap outer (sym back) ∙ t.inner_mate w h));
+      w_inner = false_from_ne_true (inner w) (λ h. false≢true (sym v_outer ∙ ap outer (sym back) ∙ t.inner_mate w h));
       different = r.2;
     }
 
@@ -273,11 +273,11 @@ folded_search g mates root labels labels' parent order now foldings base others 
     false≢true (sym f.cycle.different.0 ∙ ap (has others) e ∙ member) in
     let fewer : count n (lives part') + length others ≤ count n (lives part) = living_fall n others (lives part) (lives part') f.cycle.different.1
     (λ x h. let l = f.cycle.living x (has_rest base others x h) in (l.0, test_same (part x) x l.1))
-    (λ i less h. let living : part' i ≡ i = same_of_test (part' i) i h in (test_same (part i) i (was_living i living), not_true_false (has others i) (λ member. dead i member living))) in
+    (λ i less h. let living : part' i ≡ i = eqb-true (part' i) i h in (test_same (part i) i (was_living i living), false_from_ne_true (has others i) (λ member. dead i member living))) in
     let no_more : count n (is_unlabelled part' (is_outer labels') (is_inner labels')) ≤ count n (is_unlabelled part outer inner) =
     count_sub n (is_unlabelled part' (is_outer labels') (is_inner labels')) (is_unlabelled part outer inner) (λ i less h.
     let a = unlabelled_is part' (is_outer labels') (is_inner labels') i h in
-    let out : has others i ≡ false = not_true_false (has others i) (λ member. dead i member a.0) in
+    let out : has others i ≡ false = false_from_ne_true (has others i) (λ member. dead i member a.0) in
     unlabelled_of part outer inner i (was_living i a.0) (still outer i out (same_outer i ∙ a.1)) (still inner i out (same_inner i ∙ a.2))) in
     let few = s.few in
     let labels_long = s.labels_length in (
@@ -301,7 +301,7 @@ folded_search g mates root labels labels' parent order now foldings base others 
     lived u false is' living h = sym (ap (λ (b : Bool). cond b base (part_of foldings u)) is') ∙ h
 
     still : (label : ℕ → Bool) (i : ℕ) → has others i ≡ false → without others label i ≡ false → label i ≡ false
-    still label i out h = not_true_false (label i) (λ l. false≢true (sym h ∙ without_of others label i l out))
+    still label i out h = false_from_ne_true (label i) (λ l. false≢true (sym h ∙ without_of others label i l out))
 
 -- The tree of a root alone.
 pub search_begins : (g : List (List ℕ)) (mates : List ℕ) (root : ℕ) (labels : List Label) (parent order : List ℕ) → IsMatchingBut g (λ u. u) mates [] → root < length g → get_or mates root 0 ≡ length g
@@ -341,12 +341,12 @@ search_begins g mates root labels parent order m below free labels_long parent_l
         order_mate = λ v h. absurd (false≢true (sym (none v) ∙ h));
         root_first = λ x h. omega arith;
         order_one = λ x y h k e. only x h ∙ sym (only y k);
-        odd_classes = λ o h. ap is_odd (count_one (length g) o (λ u. u == o) (subst (λ (x : ℕ). x < length g) (sym (only o h)) below) (test_same o o refl) (λ u less t. same_of_test u o t));
+        odd_classes = λ o h. ap is_odd (count_one (length g) o (λ u. u == o) (subst (λ (x : ℕ). x < length g) (sym (only o h)) below) (test_same o o refl) (λ u less t. eqb-true u o t));
       };
       labels_length = omega arith;
       parent_length = parent_long;
       order_length = omega arith;
       latest = λ x label. let e : x ≡ root = elim label [ inl o ↦ only x o | inr i ↦ absurd (false≢true (sym (none x) ∙ i)) ] in let k : at order' x ≡ 0 = ap (at order') e ∙ root_order in omega arith;
-      few = let h = count_less (length g) (is_unlabelled (λ u. u) (is_outer labels') (is_inner labels')) root below (not_true_false (is_unlabelled (λ u. u) (is_outer labels') (is_inner labels') root) (λ h. false≢true (sym (unlabelled_is (λ u. u) (is_outer labels') (is_inner labels') root h).1 ∙ root_outer))) in omega arith;
+      few = let h = count_less (length g) (is_unlabelled (λ u. u) (is_outer labels') (is_inner labels')) root below (false_from_ne_true (is_unlabelled (λ u. u) (is_outer labels') (is_inner labels') root) (λ h. false≢true (sym (unlabelled_is (λ u. u) (is_outer labels') (is_inner labels') root h).1 ∙ root_outer))) in omega arith;
       folded = tt;
     }

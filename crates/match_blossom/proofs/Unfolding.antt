@@ -1,11 +1,10 @@
 -- A matching of the folded graph gives one of the graph before.
 use Rattle.std.proofs.Common.{◌≡◌, ◌≢◌, ℕ, ◌<◌, List, [], ◌∷◌, ◌++◌, length, get_or, set, take, drop, Bool, true, false, refl, ap, sym, ◌∙◌, inl, inr, arith, subst}
 use Rattle.std.specs.Prelude.{cond, not}
-use Rattle.std.proofs.lemmas.Bool.{cases_eq, false≢true}
+use Rattle.std.proofs.lemmas.Bool.{cases_eq, false≢true, cases_Bool, false_from_ne_true}
 use Rattle.match_barrier.specs.Graph.{has, IsGraph, NoRepeats}
 use Rattle.match_barrier.specs.Barrier.{is_odd}
-use Rattle.match_barrier.proofs.Counting.{either}
-use Rattle.match_barrier.proofs.Edges.{has_front, has_rest, not_true_false}
+use Rattle.match_barrier.proofs.Edges.{has_front, has_rest}
 use Rattle.match_blossom.specs.Foldings.{IsLiving, Touch, IsMatchingBut, pair_off, folded, IsCycle, Touches, Unfolds}
 use Rattle.match_blossom.proofs.Pairs.{touch_back, not_in_rest, not_in_cons, pairs_off, free_after}
 use Rattle.match_blossom.proofs.Rotated.{IsTurned, turned, chain_of_cycle, chain_of_others}
@@ -42,7 +41,7 @@ keeps g part base others mates is m v living out not_free not_base =
     let r = m.mate v (living_outside g part base others v living out) refl not_free in
     let w : ℕ = get_or mates v 0 in
     let w_class : part w ≡ w = class_before part base others w w r.0.1 not_base in
-    let w_out : has (base ∷ others) w ≡ false = not_true_false (has (base ∷ others) w) (λ h. not_base (sym r.0.1 ∙ class_inside part base others w (ap (has (base ∷ others)) w_class ∙ h))) in
+    let w_out : has (base ∷ others) w ≡ false = false_from_ne_true (has (base ∷ others) w) (λ h. not_base (sym r.0.1 ∙ class_inside part base others w (ap (has (base ∷ others)) w_class ∙ h))) in
     let v_not_base : v ≢ base = λ e. false≢true (sym out ∙ has_front base others v (sym e)) in (
       (r.0.0, w_class),
       w_out,
@@ -104,7 +103,7 @@ unfold_matched g part base others mates c rest graph is even m not_free t touche
     let x : ℕ = get_or mates base 0 in
     let r = m.mate base (base_in g part base others is) refl not_free in
     let x_class : part x ≡ x = class_before part base others x x r.0.1 r.2 in
-    let x_out : has (base ∷ others) x ≡ false = not_true_false (has (base ∷ others) x) (λ h. r.2 (sym r.0.1 ∙ class_inside part base others x (ap (has (base ∷ others)) x_class ∙ h))) in
+    let x_out : has (base ∷ others) x ≡ false = false_from_ne_true (has (base ∷ others) x) (λ h. r.2 (sym r.0.1 ∙ class_inside part base others x (ap (has (base ∷ others)) x_class ∙ h))) in
     let touch : Touch g part x c = touch_back g part c x graph touched in
     let all : (z : ℕ) → has (c ∷ rest) z ≡ has (base ∷ others) z = t.same in
     let list : List ℕ = x ∷ c ∷ rest in
@@ -136,7 +135,7 @@ unfold_matched g part base others mates c rest graph is even m not_free t touche
     not_not false = refl
 
     member : (x : ℕ) (xs : List ℕ) → IsLiving g part x → ((y : ℕ) → has xs y ≡ true → IsLiving g part y) → (z : ℕ) → has (x ∷ xs) z ≡ true → IsLiving g part z
-    member x xs first rest z h = elim (either (has xs z)) [
+    member x xs first rest z h = elim (cases_Bool (has xs z)) [
       | inl in' ↦ rest z in'
       | inr out ↦ elim (cases_eq x z) [
         | inl e ↦ subst (IsLiving g part) e first

@@ -131,11 +131,14 @@ forest_same g mates f t s same kept long =
       search = subst (λ (fs : List Folding). IsSearch g mates f.root f.labels.items f.parent.items f.blossoms.order.items f.now fs) (sym stack) s.search;
       falls = s.falls;
       points = subst (λ (fs : List Folding). Points f.blossoms.base.items (part_of fs)) (sym stack) s.points;
-      leads = subst (λ (fs : List Folding). Leads (length f.blossoms.base.items) (at f.blossoms.base.items) fs) (sym stack) s.leads;
+      cycle_falls = s.cycle_falls;
+      leads = subst (λ (fs : List Folding). Leads (length f.blossoms.cycle_base.items) (at f.blossoms.cycle_base.items) fs) (sym stack) s.leads;
       base_length = s.base_length;
+      cycle_length = s.cycle_length;
       fits = subst (λ (xs : List ℕ). Fits (drop f.cycles.height f.cycles.sizes.items) xs) (sym kept) s.fits;
       queue = subst (λ (fs : List Folding). IsQueue g f.labels.items (part_of fs) f.queue.items f.queued) (sym stack) s.queue;
       touched = s.touched;
+      cycle_touched = s.cycle_touched;
       room = room;
     }
       where

@@ -60,7 +60,7 @@ pub record BothWritten (g : List (List ℕ)) (mates : List ℕ) (f t : Alternati
   pub few : t.cycles.top + 1 ≤ length g + top
   pub height : 0 < t.cycles.height
   pub queue : t.queued + (t.cycles.top - top) ≤ length t.queue.items
-  pub nodes : All (λ v. (v < length t.labels.items) × (v < length t.blossoms.base.items)) (take (t.cycles.top - top) (drop top t.cycles.nodes.items))
+  pub nodes : All (λ v. (v < length t.labels.items) × (v < length t.blossoms.base.items) × (v < length t.blossoms.cycle_base.items)) (take (t.cycles.top - top) (drop top t.cycles.nodes.items))
 
 pub both_written : (g : List (List ℕ)) (mates : List ℕ) (f t t' : AlternatingTree) (a b base middle top u v : ℕ) (first second : List ℕ) → IsGraph g → IsForest g mates f → adjacent g u v ≡ true → a ≡ base_in f u → b ≡ base_in f v
     → TreeClimbs mates f a b base base first second → SecondWritten g mates f t middle second → WroteWay mates t a base t'.cycles.nodes.items top middle
@@ -82,13 +82,15 @@ both_written g mates f t t' a b base middle top u v first second is s edge a_is 
       let e : t'.queued ≡ f.queued = ap (λ (x : AlternatingTree). x.queued) same in
       let l : length t'.queue.items ≡ length f.queue.items = ap (λ (x : AlternatingTree). length x.queue.items) same in
       let p = place in let top_is = end in let h = fits in let q = s.room.queued in let r = s.room.queue in let n = s.search.few in omega arith;
-  nodes = subst (λ (xs : List ℕ). All (λ x. (x < length t'.labels.items) × (x < length t'.blossoms.base.items)) xs) (sym taken) (λ k d less.
+  nodes = subst (λ (xs : List ℕ). All (λ x. (x < length t'.labels.items) × (x < length t'.blossoms.base.items) × (x < length t'.blossoms.cycle_base.items)) xs) (sym taken) (λ k d less.
       let low = (foldable.cycle.living (get_or others k d) (has_rest base others (get_or others k d) (has_at others k d less))).0 in
       let l : length t'.labels.items ≡ length f.labels.items = ap (λ (x : AlternatingTree). length x.labels.items) same in
       let p : length t'.blossoms.base.items ≡ length f.blossoms.base.items = ap (λ (x : AlternatingTree). length x.blossoms.base.items) same in
       let labels_long = s.search.labels_length in
+      let q : length t'.blossoms.cycle_base.items ≡ length f.blossoms.cycle_base.items = ap (λ (x : AlternatingTree). length x.blossoms.cycle_base.items) same in
       let base_long = s.base_length in
-      (omega arith, omega arith));
+      let cycle_long = s.cycle_length in
+      (omega arith, omega arith, omega arith));
 }
   where
     others : List ℕ

@@ -52,6 +52,11 @@ pub record Touches (g : List (List ℕ)) (part : ℕ → ℕ) (cycle : List ℕ)
   pub inside : has cycle (part from) ≡ true
   pub outside : part to ≡ x
 
+-- from lies in a class of the cycle, to in that of x
+pub record Joins (part : ℕ → ℕ) (cycle : List ℕ) (x from to : ℕ) : Type 0 where
+  pub inside : has cycle (part from) ≡ true
+  pub outside : part to ≡ x
+
 -- one folding: its cycle
 pub record Folding : Type 0 where
   pub base : ℕ

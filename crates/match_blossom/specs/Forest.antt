@@ -68,11 +68,14 @@ pub record IsForest (g : List (List ℕ)) (mates : List ℕ) (f : AlternatingTre
   pub search : IsSearch g mates f.root f.labels.items f.parent.items f.blossoms.order.items f.now (stacked f.cycles)
   pub falls : Falls f.blossoms.base.items f.blossoms.order.items
   pub points : Points f.blossoms.base.items (part_of (stacked f.cycles))
-  pub leads : Leads (length f.blossoms.base.items) (at f.blossoms.base.items) (stacked f.cycles)
+  pub cycle_falls : Falls f.blossoms.cycle_base.items f.blossoms.order.items
+  pub leads : Leads (length f.blossoms.cycle_base.items) (at f.blossoms.cycle_base.items) (stacked f.cycles)
   pub base_length : length g ≤ length f.blossoms.base.items
+  pub cycle_length : length g ≤ length f.blossoms.cycle_base.items
   pub fits : Fits (drop f.cycles.height f.cycles.sizes.items) (drop f.cycles.top f.cycles.nodes.items)
   pub queue : IsQueue g f.labels.items (part_of (stacked f.cycles)) f.queue.items f.queued
   pub touched : IsTouched f.labels.items f.blossoms.base.items f.touched.items f.now
+  pub cycle_touched : IsTouched f.labels.items f.blossoms.cycle_base.items f.touched.items f.now
   pub room : HasRoom (length g) (part_of (stacked f.cycles)) f
 
 -- The arrays have kept their lengths.
@@ -80,6 +83,7 @@ pub record KeepsLengths (old new : AlternatingTree) : Type 0 where
   pub labels : length new.labels.items ≡ length old.labels.items
   pub parent : length new.parent.items ≡ length old.parent.items
   pub base : length new.blossoms.base.items ≡ length old.blossoms.base.items
+  pub cycle_base : length new.blossoms.cycle_base.items ≡ length old.blossoms.cycle_base.items
   pub order : length new.blossoms.order.items ≡ length old.blossoms.order.items
   pub touched : length new.touched.items ≡ length old.touched.items
   pub queue : length new.queue.items ≡ length old.queue.items
@@ -95,6 +99,8 @@ pub record IsAbsorbed (old new : AlternatingTree) (base from : ℕ) (others : Li
   pub order : new.blossoms.order ≡ old.blossoms.order
   pub pointers : (u : ℕ) → at new.blossoms.base.items u ≡ cond (has others u) base (at old.blossoms.base.items u)
   pub base_length : length new.blossoms.base.items ≡ length old.blossoms.base.items
+  pub cycle_pointers : (u : ℕ) → at new.blossoms.cycle_base.items u ≡ cond (has others u) base (at old.blossoms.cycle_base.items u)
+  pub cycle_length : length new.blossoms.cycle_base.items ≡ length old.blossoms.cycle_base.items
   pub cleared : (u : ℕ) → get_or new.labels.items u Outside ≡ cond (has others u) Outside (get_or old.labels.items u Outside)
   pub labels_length : length new.labels.items ≡ length old.labels.items
   pub queue_length : length new.queue.items ≡ length old.queue.items
@@ -114,6 +120,7 @@ pub record IsClean (n : ℕ) (f : AlternatingTree) : Type 0 where
   pub labels_length : length f.labels.items ≡ n
   pub parent_length : length f.parent.items ≡ n
   pub base_length : length f.blossoms.base.items ≡ n
+  pub cycle_length : length f.blossoms.cycle_base.items ≡ n
   pub order_length : length f.blossoms.order.items ≡ n
   pub touched_length : length f.touched.items ≡ n
   pub queue_length : length f.queue.items ≡ n + n
@@ -123,6 +130,7 @@ pub record IsClean (n : ℕ) (f : AlternatingTree) : Type 0 where
   pub height : f.cycles.height ≡ n
   pub labels : (u : ℕ) → get_or f.labels.items u Outside ≡ Outside
   pub base : (u : ℕ) → u < n → at f.blossoms.base.items u ≡ u
+  pub cycle_base : (u : ℕ) → u < n → at f.blossoms.cycle_base.items u ≡ u
 
 -- An odd cycle whose blossom is matched, or free.
 pub record IsLiftable (g : List (List ℕ)) (base cycle mates : List ℕ) : Type 0 where
@@ -189,5 +197,6 @@ pub record IsStep (g : List (List ℕ)) (mates : List ℕ) (old new : Alternatin
 pub record HasAugmented (g : List (List ℕ)) (mates after : List ℕ) (old new : AlternatingTree) : Type 0 where
   pub augmented : Augmented g mates after old.root
   pub touched : IsTouched new.labels.items new.blossoms.base.items new.touched.items new.now
+  pub cycle_touched : IsTouched new.labels.items new.blossoms.cycle_base.items new.touched.items new.now
   pub now : new.now ≤ length new.touched.items
   pub lengths : KeepsLengths old new

@@ -5,6 +5,7 @@ pub mod Pointers
 pub mod Stack
 pub mod Climbing
 pub mod Forest
+pub mod Shortened
 pub mod Answer
 pub mod Inner
 pub mod Lending

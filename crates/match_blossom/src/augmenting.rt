@@ -5,12 +5,20 @@ ghost use Rattle.match_blossom.specs.Foldings.{Augmented};
 ghost use Rattle.match_blossom.specs.Search.{Turned};
 ghost use Rattle.match_blossom.specs.Forest.{IsForest, IsTouched, KeepsLengths, base_in};
 
+use crate::known::KnownEdges;
 use crate::lifting::lift_all;
 use crate::tree::AlternatingTree;
 use match_barrier::Graph;
 
 /// Augments the matching along the path that leads from the free node v over the outer blossom of u to the root.
-pub(crate) fn augment(graph: &Graph, mates: &mut [u32], tree: &mut AlternatingTree, u: u32, v: u32)
+pub(crate) fn augment(
+    graph: &Graph,
+    mates: &mut [u32],
+    tree: &mut AlternatingTree,
+    known: &mut KnownEdges,
+    u: u32,
+    v: u32,
+)
     requires forest { IsForest graph.now mates.old tree.old }
     requires edge { adjacent graph.now u v ≡ true }
     requires from_outer { is_outer tree.old.labels.items (base_in tree.old u) ≡ true }
@@ -19,12 +27,13 @@ pub(crate) fn augment(graph: &Graph, mates: &mut [u32], tree: &mut AlternatingTr
     requires free { get_or mates.old v 0 ≡ length graph.now }
     ensures augmented { Augmented graph.now mates.old mates.new tree.old.root }
     ensures touched { IsTouched tree.new.labels.items tree.new.blossoms.base.items tree.new.touched.items tree.new.now }
+    ensures cycle_touched { IsTouched tree.new.labels.items tree.new.blossoms.cycle_base.items tree.new.touched.items tree.new.now }
     ensures now { tree.new.now ≡ tree.old.now }
     ensures lengths { KeepsLengths tree.old tree.new }
 {
     let _nodes = graph.node_count();
     augment_path(graph, mates, tree, u, v);
-    lift_all(graph, mates, &mut tree.blossoms, &mut tree.cycles);
+    lift_all(graph, mates, &mut tree.blossoms, &mut tree.cycles, known);
 }
 
 // Mates v with the outer blossom of u, the mate of that blossom with the blossom of its parent, and so on up to the root.

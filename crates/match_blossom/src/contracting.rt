@@ -4,6 +4,7 @@ ghost use Rattle.match_barrier.specs.Graph.{has, adjacent};
 ghost use Rattle.match_blossom.specs.Labels.{at, is_outer, is_inner};
 ghost use Rattle.match_blossom.specs.Foldings.{Touch, part_of};
 ghost use Rattle.match_blossom.specs.Forest.{IsAbsorbed, IsForest, IsStep, TreeClimb, TreeClimbs, stacked, base_in, StandsIn};
+ghost use Rattle.match_blossom.specs.Shortened.{IsShortened};
 ghost use Rattle.match_blossom.specs.declared.tree.Label.TheVariants.{Outside};
 
 use crate::tree::{AlternatingTree, Label, is_inner};
@@ -30,20 +31,22 @@ pub(crate) fn contract(graph: &Graph, mates: &[u32], tree: &mut AlternatingTree,
 }
 
 // The base of a blossom: where the ways from two outer nodes to the root meet.
-fn meeting_base(graph: &Graph, mates: &[u32], tree: &AlternatingTree, a: u32, b: u32) -> u32
-    requires forest { IsForest graph.now mates.now tree.now }
-    requires first_outer { is_outer tree.now.labels.items a ≡ true }
-    requires second_outer { is_outer tree.now.labels.items b ≡ true }
-    ensures { (first : List ℕ) × (second : List ℕ) × TreeClimbs mates.now tree.entry.now a b result result first second }
+fn meeting_base(graph: &Graph, mates: &[u32], tree: &mut AlternatingTree, a: u32, b: u32) -> u32
+    requires forest { IsForest graph.now mates.now tree.old }
+    requires first_outer { is_outer tree.old.labels.items a ≡ true }
+    requires second_outer { is_outer tree.old.labels.items b ≡ true }
+    ensures ways { (first : List ℕ) × (second : List ℕ) × TreeClimbs mates.now tree.new a b result result first second }
+    ensures forest { IsForest graph.now mates.now tree.new }
+    ensures shortened { IsShortened tree.old tree.new }
 {
     let _nodes = graph.node_count();
     let mut x = a;
     let mut y = b;
     while x != y {
         if tree.blossoms.order_of(x) > tree.blossoms.order_of(y) {
-            x = tree.above(mates, x);
+            x = tree.climb(mates, x);
         } else {
-            y = tree.above(mates, y);
+            y = tree.climb(mates, y);
         }
     }
     x
@@ -89,12 +92,13 @@ fn absorb(tree: &mut AlternatingTree, base: u32, from: usize)
     requires height { 0 < tree.old.cycles.height }
     requires height_below { tree.old.cycles.height ≤ length tree.old.cycles.sizes.items }
     requires queue { tree.old.queued + (tree.old.cycles.top - from) ≤ length tree.old.queue.items }
-    requires nodes { All (λ v. (v < length tree.old.labels.items) × (v < length tree.old.blossoms.base.items)) (take (tree.old.cycles.top - from) (drop from tree.old.cycles.nodes.items)) }
+    requires nodes { All (λ v. (v < length tree.old.labels.items) × (v < length tree.old.blossoms.base.items) × (v < length tree.old.blossoms.cycle_base.items)) (take (tree.old.cycles.top - from) (drop from tree.old.cycles.nodes.items)) }
     ensures { IsAbsorbed tree.old tree.new base from (take (tree.old.cycles.top - from) (drop from tree.old.cycles.nodes.items)) }
 {
     let others = &tree.cycles.nodes.as_slice()[from..tree.cycles.top];
     let size = others.len();
     point_to(tree.blossoms.base.as_mut_slice(), others, base);
+    point_to(tree.blossoms.cycle_base.as_mut_slice(), others, base);
     tree.queued = queue_inner(
         tree.labels.as_slice(),
         others,

@@ -6,6 +6,7 @@ mod blossoms;
 mod contracting;
 mod cycles;
 mod greedy;
+mod known;
 mod lifting;
 mod matcher;
 mod search;

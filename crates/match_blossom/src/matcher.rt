@@ -7,6 +7,7 @@ ghost use Rattle.match_blossom.specs.Inner.{ListsInner};
 ghost use Rattle.match_blossom.specs.Answer.{IsAnswer, IsBarrierSet, HasNoPerfect, SaysBarrier};
 
 use crate::greedy::match_greedily;
+use crate::known::KnownEdges;
 use crate::search::search;
 use crate::tree::{AlternatingTree, Label, is_inner};
 use match_barrier::Graph;
@@ -28,6 +29,7 @@ pub struct Matcher {
     mates: Vec<u32>,
     set: Vec<u32>,
     tree: AlternatingTree,
+    known: KnownEdges,
 }
 
 impl Model for Matcher {
@@ -52,7 +54,13 @@ impl Matcher {
         let mates = vec![in alloc; 0u32; nodes as usize]?;
         let set = vec![in alloc; 0u32; nodes as usize]?;
         let tree = AlternatingTree::reserve(alloc, nodes)?;
-        Ok(Matcher { mates, set, tree })
+        let known = KnownEdges::reserve(alloc, nodes)?;
+        Ok(Matcher {
+            mates,
+            set,
+            tree,
+            known,
+        })
     }
 
     /// A perfect matching, or a barrier exactly where there is none. Takes no memory, and leaves the room as it was.
@@ -67,6 +75,7 @@ impl Matcher {
             graph,
             self.mates.as_mut_slice(),
             &mut self.tree,
+            &mut self.known,
             self.set.as_mut_slice(),
         ) {
             None => Matched::Perfect(&self.mates.as_slice()[..nodes]),
@@ -80,6 +89,7 @@ fn solve_within(
     graph: &Graph,
     mates: &mut [u32],
     tree: &mut AlternatingTree,
+    known: &mut KnownEdges,
     set: &mut [u32],
 ) -> Option<usize>
     requires mates { length graph.now ≤ length mates.old }
@@ -92,7 +102,7 @@ fn solve_within(
     ensures clean { IsClean (length mates.old) tree.new }
 {
     let nodes = graph.node_count();
-    solve_in(graph, &mut mates[..nodes as usize], tree, set)
+    solve_in(graph, &mut mates[..nodes as usize], tree, known, set)
 }
 
 // The same where there is a mate for each node.
@@ -100,6 +110,7 @@ fn solve_in(
     graph: &Graph,
     mates: &mut [u32],
     tree: &mut AlternatingTree,
+    known: &mut KnownEdges,
     set: &mut [u32],
 ) -> Option<usize>
     requires mates { length mates.old ≡ length graph.now }
@@ -112,9 +123,10 @@ fn solve_in(
     ensures clean { IsClean (length set.old) tree.new }
 {
     match_greedily(graph, mates);
-    for root in 0..graph.node_count() {
-        if mates[root as usize] == graph.node_count() {
-            if let Some(size) = mate_root(graph, mates, tree, set, root) {
+    let nodes = graph.node_count();
+    for root in 0..nodes {
+        if mates[root as usize] == nodes {
+            if let Some(size) = mate_root(graph, mates, tree, known, set, root) {
                 return Some(size);
             }
         }
@@ -127,6 +139,7 @@ fn mate_root(
     graph: &Graph,
     mates: &mut [u32],
     tree: &mut AlternatingTree,
+    known: &mut KnownEdges,
     set: &mut [u32],
     root: u32,
 ) -> Option<usize>
@@ -141,7 +154,8 @@ fn mate_root(
     ensures clean { IsClean (length set.old) tree.new }
 {
     tree.begin(graph, mates, root);
-    if search(graph, mates, tree) {
+    known.begin();
+    if search(graph, mates, tree, known) {
         tree.clear();
         return None;
     }

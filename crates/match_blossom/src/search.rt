@@ -6,17 +6,23 @@ ghost use Rattle.match_blossom.specs.Forest.{IsForest, IsStep, IsScanned, IsSett
 
 use crate::augmenting::augment;
 use crate::contracting::contract;
+use crate::known::KnownEdges;
 use crate::tree::{AlternatingTree, Label};
 use match_barrier::Graph;
 
 /// Whether the root of a tree could be mated. Where not, no edge leads out of an outer blossom but to an inner node.
-pub(crate) fn search(graph: &Graph, mates: &mut [u32], tree: &mut AlternatingTree) -> bool
+pub(crate) fn search(
+    graph: &Graph,
+    mates: &mut [u32],
+    tree: &mut AlternatingTree,
+    known: &mut KnownEdges,
+) -> bool
     requires { IsForest graph.now mates.old tree.old }
     ensures { MatchBool result (HasAugmented graph.now mates.old mates.new tree.old tree.new) ((mates.new ≡ mates.old) × IsForest graph.now mates.new tree.new × IsScanned graph.now tree.new tree.new.queued × KeepsLengths tree.old tree.new) }
 {
     let mut head = 0;
     while head < tree.queued {
-        if scan(graph, mates, tree, head) {
+        if scan(graph, mates, tree, known, head) {
             return true;
         }
         head += 1;
@@ -25,7 +31,13 @@ pub(crate) fn search(graph: &Graph, mates: &mut [u32], tree: &mut AlternatingTre
 }
 
 // Looks at the edges of a node of the queue. Answers whether the root has been mated.
-fn scan(graph: &Graph, mates: &mut [u32], tree: &mut AlternatingTree, head: usize) -> bool
+fn scan(
+    graph: &Graph,
+    mates: &mut [u32],
+    tree: &mut AlternatingTree,
+    known: &mut KnownEdges,
+    head: usize,
+) -> bool
     requires forest { IsForest graph.now mates.old tree.old }
     requires head { head < tree.old.queued }
     requires scanned { IsScanned graph.now tree.old head }
@@ -34,7 +46,7 @@ fn scan(graph: &Graph, mates: &mut [u32], tree: &mut AlternatingTree, head: usiz
     let _nodes = graph.node_count();
     let u = tree.queue[head];
     for v in graph.neighbours(u) {
-        if step(graph, mates, tree, u, *v) {
+        if step(graph, mates, tree, known, u, *v) {
             return true;
         }
     }
@@ -42,7 +54,34 @@ fn scan(graph: &Graph, mates: &mut [u32], tree: &mut AlternatingTree, head: usiz
 }
 
 // Looks at an edge from a node of an outer blossom. Answers whether the root has been mated.
-fn step(graph: &Graph, mates: &mut [u32], tree: &mut AlternatingTree, u: u32, v: u32) -> bool
+fn step(
+    graph: &Graph,
+    mates: &mut [u32],
+    tree: &mut AlternatingTree,
+    known: &mut KnownEdges,
+    u: u32,
+    v: u32,
+) -> bool
+    requires forest { IsForest graph.now mates.old tree.old }
+    requires edge { adjacent graph.now u v ≡ true }
+    requires outer { is_outer tree.old.labels.items (base_in tree.old u) ≡ true }
+    ensures { MatchBool result (HasAugmented graph.now mates.old mates.new tree.old tree.new) ((mates.new ≡ mates.old) × IsStep graph.now mates.new tree.old tree.new u v) }
+{
+    let _nodes = graph.node_count();
+    tree.blossoms.shorten(u);
+    tree.blossoms.shorten(v);
+    step_along(graph, mates, tree, known, u, v)
+}
+
+// The same, where the ways to the bases of both ends are short.
+fn step_along(
+    graph: &Graph,
+    mates: &mut [u32],
+    tree: &mut AlternatingTree,
+    known: &mut KnownEdges,
+    u: u32,
+    v: u32,
+) -> bool
     requires forest { IsForest graph.now mates.old tree.old }
     requires edge { adjacent graph.now u v ≡ true }
     requires outer { is_outer tree.old.labels.items (base_in tree.old u) ≡ true }
@@ -58,11 +97,12 @@ fn step(graph: &Graph, mates: &mut [u32], tree: &mut AlternatingTree, u: u32, v:
         Label::Inner => false,
         Label::Outer => {
             contract(graph, mates, tree, u, v);
+            known.push(u, v);
             false
         }
         Label::Outside => {
             if mates[v as usize] == nodes {
-                augment(graph, mates, tree, u, v);
+                augment(graph, mates, tree, known, u, v);
                 return true;
             }
             tree.grow(graph, mates, u, v);

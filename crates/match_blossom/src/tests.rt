@@ -161,6 +161,18 @@ fn draw(state: &mut u64, bound: u32) -> u32
 fn random_graph(rt: &impl AllocGlobal, state: &mut u64) -> Result<Graph, Fail> {
     let nodes = 7 + draw(state, 34);
     let edges = nodes / 2 + draw(state, 2 * nodes);
+    random_edges(rt, state, nodes, edges)
+}
+
+/// A graph with at most so many edges.
+fn random_edges(
+    rt: &impl AllocGlobal,
+    state: &mut u64,
+    nodes: u32,
+    edges: u32,
+) -> Result<Graph, Fail>
+    requires { 0 < nodes }
+{
     let mut graph = Graph::new(rt.alloc(), nodes)?;
     for _ in 0..edges {
         let u = draw(state, nodes);
@@ -323,6 +335,73 @@ fn nested_cycles(rt: &impl AllocGlobal, nodes: u32) -> Result<Graph, Fail> {
     Ok(graph)
 }
 
+/// The outer node of a way up from the root, which comes behind all pairs.
+fn outer_node(place: u32, pairs: u32) -> u32 {
+    if place == 0 {
+        pairs.saturating_mul(4)
+    } else {
+        place.saturating_mul(4).saturating_sub(3)
+    }
+}
+
+/// A way up from a free node, at whose end a triangle is contracted; then cycles close from above down, each with a base
+/// of its own, and only the last leads to the other free node.
+fn descending_cycles(rt: &impl AllocGlobal, pairs: u32) -> Result<Graph, Fail> {
+    let mut graph = Graph::new(rt.alloc(), pairs.saturating_mul(4).saturating_add(2))?;
+    for k in 0..pairs {
+        let inner = k.saturating_mul(4);
+        join(&mut graph, inner, inner.saturating_add(1))?;
+        join(&mut graph, inner.saturating_add(2), inner.saturating_add(3))?;
+    }
+    for k in 0..pairs {
+        let inner = k.saturating_mul(4);
+        join(&mut graph, outer_node(k, pairs), inner)?;
+        if k > 0 {
+            join(
+                &mut graph,
+                outer_node(k.saturating_sub(1), pairs),
+                inner.saturating_add(3),
+            )?;
+            join(&mut graph, inner, inner.saturating_add(2))?;
+        }
+    }
+    join(
+        &mut graph,
+        outer_node(pairs.saturating_sub(1), pairs),
+        outer_node(pairs, pairs),
+    )?;
+    join(&mut graph, 0, pairs.saturating_mul(4).saturating_add(1))?;
+    Ok(graph)
+}
+
+/// Two triangles at the ends of two arms, an edge between them, and two free nodes: the matching is augmented along a path
+/// that leads from one contracted triangle to the other.
+const ARMS: [(u32, u32); 12] = [
+    (0, 1),
+    (2, 3),
+    (4, 5),
+    (6, 7),
+    (1, 2),
+    (1, 3),
+    (5, 6),
+    (5, 7),
+    (2, 6),
+    (8, 0),
+    (8, 4),
+    (9, 0),
+];
+
+fn arms(rt: &impl AllocGlobal, count: u32) -> Result<Graph, Fail> {
+    let mut graph = Graph::new(rt.alloc(), count.saturating_mul(10))?;
+    for k in 0..count {
+        let first = k.saturating_mul(10);
+        for (u, v) in ARMS {
+            join(&mut graph, first.saturating_add(u), first.saturating_add(v))?;
+        }
+    }
+    Ok(graph)
+}
+
 /// Each node is joined to each other.
 fn complete(rt: &impl AllocGlobal, nodes: u32) -> Result<Graph, Fail> {
     let mut graph = Graph::new(rt.alloc(), nodes)?;
@@ -352,6 +431,37 @@ fn large_graphs(rt: HostRuntime) -> Result<(), Fail> {
         )
     );
     assert!(rt; matches!(confirmed(&rt, &complete(&rt, 60)?)?, Verdict::Perfect));
+    Ok(())
+}
+
+#[test]
+fn cycles_in_cycles(rt: HostRuntime) -> Result<(), Fail> {
+    for pairs in [1u32, 2, 3, 4, 5, 200] {
+        let graph = descending_cycles(&rt, pairs)?;
+        assert!(rt;
+            matches!(confirmed(&rt, &graph)?, Verdict::Perfect),
+            "{pairs} pairs"
+        );
+    }
+    for count in [1u32, 2, 100] {
+        let graph = arms(&rt, count)?;
+        assert!(rt;
+            matches!(confirmed(&rt, &graph)?, Verdict::Perfect),
+            "{count} times two arms"
+        );
+    }
+    Ok(())
+}
+
+/// The greatest graphs that a molecule may need, with two and with five edges for each node.
+#[test]
+fn large_random_graphs(rt: HostRuntime) -> Result<(), Fail> {
+    let mut state = 20261202u64;
+    for nodes in [4998u32, 4999] {
+        for edges in [9996u32, 24990] {
+            confirmed(&rt, &random_edges(&rt, &mut state, nodes, edges)?)?;
+        }
+    }
     Ok(())
 }
 

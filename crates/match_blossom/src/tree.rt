@@ -3,6 +3,7 @@ ghost use Rattle.match_barrier.specs.Graph.{IsGraph, adjacent};
 ghost use Rattle.match_blossom.specs.Labels.{at, is_outer, is_inner};
 ghost use Rattle.match_blossom.specs.Foldings.{IsMatchingBut};
 ghost use Rattle.match_blossom.specs.Pointers.{Falls, Points};
+ghost use Rattle.match_blossom.specs.Shortened.{IsShortened};
 ghost use Rattle.match_blossom.specs.Forest.{IsForest, IsStep, IsClean, IsScanned, IsTouched, KeepsLengths, StandsIn, base_in};
 ghost use Rattle.match_blossom.specs.declared.tree.Label.TheVariants.{Outside};
 
@@ -41,10 +42,8 @@ impl AlternatingTree {
     pub(crate) fn reserve(alloc: Global, nodes: u32) -> Result<AlternatingTree, NoMemory>
         ensures { IfOk result (λ tree. IsClean nodes tree) }
     {
-        let mut base = Vec::new(alloc);
-        for v in 0..nodes {
-            base.push(v)?;
-        }
+        let base = own_bases(alloc, nodes)?;
+        let cycle_base = own_bases(alloc, nodes)?;
         let nodes = nodes as usize;
         let order = vec![in alloc; 0u32; nodes]?;
         let cycles = Cycles {
@@ -61,7 +60,11 @@ impl AlternatingTree {
             touched: vec![in alloc; 0u32; nodes]?,
             queue: vec![in alloc; 0u32; 2 * nodes]?,
             queued: 0,
-            blossoms: Blossoms { base, order },
+            blossoms: Blossoms {
+                base,
+                cycle_base,
+                order,
+            },
             cycles,
         })
     }
@@ -99,6 +102,20 @@ impl AlternatingTree {
         self.blossoms.base_of(self.parent[w as usize])
     }
 
+    /// The same, while the way to that base is made half as long.
+    pub(crate) fn climb(&mut self, mates: &[u32], x: u32) -> u32
+        requires falls { Falls self.old.blossoms.base.items self.old.blossoms.order.items }
+        requires node { x < length mates.now }
+        requires mate { get_or mates.now x 0 < length self.old.parent.items }
+        requires parent { at self.old.parent.items (get_or mates.now x 0) < length self.old.blossoms.base.items }
+        ensures above { (part : ℕ → ℕ) → Points self.old.blossoms.base.items part → result ≡ part (at self.old.parent.items (get_or mates.now x 0)) }
+        ensures shortened { IsShortened self.old self.new }
+    {
+        let w = mates[x as usize];
+        self.blossoms.shorten(self.parent[w as usize]);
+        self.above(mates, x)
+    }
+
     /// Makes v inner, with u as its parent, and its mate outer.
     pub(crate) fn grow(&mut self, graph: &Graph, mates: &[u32], u: u32, v: u32)
         requires forest { IsForest graph.now mates.now self.old }
@@ -126,10 +143,12 @@ impl AlternatingTree {
     /// Takes the tree away. Only what was touched is written.
     pub(crate) fn clear(&mut self)
         requires touched { IsTouched self.old.labels.items self.old.blossoms.base.items self.old.touched.items self.old.now }
+        requires cycle_touched { IsTouched self.old.labels.items self.old.blossoms.cycle_base.items self.old.touched.items self.old.now }
         requires room { self.old.now ≤ length self.old.touched.items }
         ensures lengths { KeepsLengths self.old self.new }
         ensures labels { (u : ℕ) → get_or self.new.labels.items u Outside ≡ Outside }
         ensures base { (u : ℕ) → u < length self.old.blossoms.base.items → at self.new.blossoms.base.items u ≡ u }
+        ensures cycle_base { (u : ℕ) → u < length self.old.blossoms.cycle_base.items → at self.new.blossoms.cycle_base.items u ≡ u }
         ensures top { self.new.cycles.top ≡ length self.old.cycles.nodes.items }
         ensures height { self.new.cycles.height ≡ length self.old.cycles.sizes.items }
     {
@@ -137,10 +156,22 @@ impl AlternatingTree {
             let v = self.touched[k as usize];
             self.labels[v as usize] = Label::Outside;
             self.blossoms.base[v as usize] = v;
+            self.blossoms.cycle_base[v as usize] = v;
         }
         self.cycles.top = self.cycles.nodes.len();
         self.cycles.height = self.cycles.sizes.len();
     }
+}
+
+// Each node is its own base.
+fn own_bases(alloc: Global, nodes: u32) -> Result<Vec<u32>, NoMemory>
+    ensures { IfOk result (λ base. (length base.items ≡ nodes) × ((v : ℕ) → v < nodes → at base.items v ≡ v)) }
+{
+    let mut base = Vec::new(alloc);
+    for v in 0..nodes {
+        base.push(v)?;
+    }
+    Ok(base)
 }
 
 /// Whether a node is inner.

@@ -20,11 +20,14 @@ returns c =
     let pointers : (u : ℕ) → get_or c.point_to.new.pointers u 0 ≡ cond (has others u) c.args.base (get_or c.args.tree.now.blossoms.base.items u 0) =
     subst (λ (xs : List ℕ). (u : ℕ) → get_or c.point_to.new.pointers u 0 ≡ cond (has (take k (drop c.args.from xs)) u) c.args.base (get_or c.args.tree.now.blossoms.base.items u 0)) value
     (subst (λ (bs : List ℕ). (u : ℕ) → get_or c.point_to.new.pointers u 0 ≡ cond (has (take k (drop c.args.from c.as_slice.result.now)) u) c.args.base (get_or bs u 0)) c.as_mut_slice.ensures.value c.point_to.ensures.pointers) in
+    let cycle_pointers : (u : ℕ) → get_or c.point_to-2.new.pointers u 0 ≡ cond (has others u) c.args.base (get_or c.args.tree.now.blossoms.cycle_base.items u 0) =
+    subst (λ (xs : List ℕ). (u : ℕ) → get_or c.point_to-2.new.pointers u 0 ≡ cond (has (take k (drop c.args.from xs)) u) c.args.base (get_or c.args.tree.now.blossoms.cycle_base.items u 0)) value
+    (subst (λ (bs : List ℕ). (u : ℕ) → get_or c.point_to-2.new.pointers u 0 ≡ cond (has (take k (drop c.args.from c.as_slice.result.now)) u) c.args.base (get_or bs u 0)) c.as_mut_slice-2.ensures.value c.point_to-2.ensures.pointers) in
     let cleared : (u : ℕ) → get_or c.clear_labels.new.labels u Outside ≡ cond (has others u) Outside (get_or c.args.tree.now.labels.items u Outside) =
     subst (λ (xs : List ℕ). (u : ℕ) → get_or c.clear_labels.new.labels u Outside ≡ cond (has (take k (drop c.args.from xs)) u) Outside (get_or c.args.tree.now.labels.items u Outside)) value
-    (subst (λ (ls : List Label). (u : ℕ) → get_or c.clear_labels.new.labels u Outside ≡ cond (has (take k (drop c.args.from c.as_slice.result.now)) u) Outside (get_or ls u Outside)) c.as_mut_slice-3.ensures.value c.clear_labels.ensures.cleared) in
+    (subst (λ (ls : List Label). (u : ℕ) → get_or c.clear_labels.new.labels u Outside ≡ cond (has (take k (drop c.args.from c.as_slice.result.now)) u) Outside (get_or ls u Outside)) c.as_mut_slice-4.ensures.value c.clear_labels.ensures.cleared) in
     let queue' : List ℕ = q.new.queue in
-    let kept : (j : ℕ) → j < c.args.tree.now.queued → get_or queue' j 0 ≡ get_or c.args.tree.now.queue.items j 0 = subst (λ (xs : List ℕ). (j : ℕ) → j < c.args.tree.now.queued → get_or queue' j 0 ≡ get_or xs j 0) c.as_mut_slice-2.ensures.value q.ensures.kept in
+    let kept : (j : ℕ) → j < c.args.tree.now.queued → get_or queue' j 0 ≡ get_or c.args.tree.now.queue.items j 0 = subst (λ (xs : List ℕ). (j : ℕ) → j < c.args.tree.now.queued → get_or queue' j 0 ≡ get_or xs j 0) c.as_mut_slice-3.ensures.value q.ensures.kept in
     let high : q.result ≤ c.args.tree.now.queued + length others = subst (λ (xs : List ℕ). q.result ≤ c.args.tree.now.queued + length (take k (drop c.args.from xs))) value q.ensures.high in
     let new : (j : ℕ) → c.args.tree.now.queued ≤ j → j < q.result → (has others (get_or queue' j 0) ≡ true) × (is_inner c.args.tree.now.labels.items (get_or queue' j 0) ≡ true) =
     subst (λ (xs : List ℕ). (j : ℕ) → c.args.tree.now.queued ≤ j → j < q.result → (has (take k (drop c.args.from xs)) (get_or queue' j 0) ≡ true) × (is_inner c.args.tree.now.labels.items (get_or queue' j 0) ≡ true)) value
@@ -33,9 +36,11 @@ returns c =
     subst (λ (xs : List ℕ). (u : ℕ) → has (take k (drop c.args.from xs)) u ≡ true → is_inner c.args.tree.now.labels.items u ≡ true → StandsIn queue' c.args.tree.now.queued q.result u) value
     (subst (λ (ls : List Label). (u : ℕ) → has (take k (drop c.args.from c.as_slice.result.now)) u ≡ true → is_inner ls u ≡ true → StandsIn queue' c.args.tree.now.queued q.result u) c.as_slice-2.ensures.value q.ensures.each) in
     let base_long : length c.point_to.new.pointers ≡ length c.args.tree.now.blossoms.base.items = c.point_to.ensures.length ∙ ap (λ (xs : List ℕ). length xs) c.as_mut_slice.ensures.value in
-    let labels_long : length c.clear_labels.new.labels ≡ length c.args.tree.now.labels.items = c.clear_labels.ensures.length ∙ ap (λ (xs : List Label). length xs) c.as_mut_slice-3.ensures.value in
-    let queue_long : length queue' ≡ length c.args.tree.now.queue.items = q.ensures.length ∙ ap (λ (xs : List ℕ). length xs) c.as_mut_slice-2.ensures.value in
+    let cycle_long : length c.point_to-2.new.pointers ≡ length c.args.tree.now.blossoms.cycle_base.items = c.point_to-2.ensures.length ∙ ap (λ (xs : List ℕ). length xs) c.as_mut_slice-2.ensures.value in
+    let labels_long : length c.clear_labels.new.labels ≡ length c.args.tree.now.labels.items = c.clear_labels.ensures.length ∙ ap (λ (xs : List Label). length xs) c.as_mut_slice-4.ensures.value in
+    let queue_long : length queue' ≡ length c.args.tree.now.queue.items = q.ensures.length ∙ ap (λ (xs : List ℕ). length xs) c.as_mut_slice-3.ensures.value in
     let bi : (with_items c.args.tree.now.blossoms.base c.point_to.new.pointers).items ≡ c.point_to.new.pointers = with_items_is c.args.tree.now.blossoms.base c.point_to.new.pointers (base_long ∙ sym c.args.tree.now.blossoms.base.ok.0) in
+    let ci : (with_items c.args.tree.now.blossoms.cycle_base c.point_to-2.new.pointers).items ≡ c.point_to-2.new.pointers = with_items_is c.args.tree.now.blossoms.cycle_base c.point_to-2.new.pointers (cycle_long ∙ sym c.args.tree.now.blossoms.cycle_base.ok.0) in
     let li : (with_items c.args.tree.now.labels c.clear_labels.new.labels).items ≡ c.clear_labels.new.labels = with_items_is c.args.tree.now.labels c.clear_labels.new.labels (labels_long ∙ sym c.args.tree.now.labels.ok.0) in
     let qi : (with_items c.args.tree.now.queue queue').items ≡ queue' = with_items_is c.args.tree.now.queue queue' (queue_long ∙ sym c.args.tree.now.queue.ok.0) in
     let below = c.requires.below in
@@ -52,6 +57,8 @@ returns c =
       order = refl;
       pointers = λ u. ap (λ (xs : List ℕ). get_or xs u 0) bi ∙ pointers u;
       base_length = ap (λ (xs : List ℕ). length xs) bi ∙ base_long;
+      cycle_pointers = λ u. ap (λ (xs : List ℕ). get_or xs u 0) ci ∙ cycle_pointers u;
+      cycle_length = ap (λ (xs : List ℕ). length xs) ci ∙ cycle_long;
       cleared = λ u. ap (λ (ls : List Label). get_or ls u Outside) li ∙ cleared u;
       labels_length = ap (λ (ls : List Label). length ls) li ∙ labels_long;
       queue_length = ap (λ (xs : List ℕ). length xs) qi ∙ queue_long;

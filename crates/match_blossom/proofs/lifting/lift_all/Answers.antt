@@ -22,7 +22,7 @@ release-requires c =
     let size_is : size ≡ get_or cy.sizes.items cy.height 0 = c.index.ensures ∙ at_default cy.sizes.items cy.height size 0 less in
     let long = c.requires.base_length in
     let same = was.base_length in
-    others_in_range g c.args.mates.now (stacked c.args.cycles.now) c.loop-cycles.mates cy size c.as_slice.result.now (length c.loop-cycles.blossoms.base.items) less was.top size_is was.fits was.lifting (omega arith) c.as_slice.ensures.value
+    others_in_range g c.args.mates.now (stacked c.args.cycles.now) c.loop-cycles.mates cy size c.as_slice.result.now (length c.loop-cycles.blossoms.cycle_base.items) less was.top size_is was.fits was.lifting (omega arith) c.as_slice.ensures.value
 
 pub lift_part-requires-clause-falls : goal.lift_part-requires-clause-falls
 lift_part-requires-clause-falls c =
@@ -32,8 +32,8 @@ lift_part-requires-clause-falls c =
     let size : ℕ = c.index.result.now in
     let less : cy.height < length cy.sizes.items = (let t = c.loop-cycles-test.true in let e = c.len.ensures in omega arith) in
     let size_is : size ≡ get_or cy.sizes.items cy.height 0 = c.index.ensures ∙ at_default cy.sizes.items cy.height size 0 less in
-    let rel = latest_released g c.args.mates.now (stacked c.args.cycles.now) c.loop-cycles.mates c.loop-cycles.blossoms.base.items c.release.new.self.base.items c.loop-cycles.blossoms.order.items cy size c.as_slice.result.now less was.top size_is was.fits was.lifting was.falls was.leads c.as_slice.ensures.value c.release.ensures.base c.release.ensures.length in
-    subst (λ o. Falls c.release.new.self.base.items o.items) (sym c.release.ensures.order) rel.falls
+    let rel = latest_released g c.args.mates.now (stacked c.args.cycles.now) c.loop-cycles.mates c.loop-cycles.blossoms.cycle_base.items c.release.new.self.cycle_base.items c.loop-cycles.blossoms.order.items cy size c.as_slice.result.now less was.top size_is was.fits was.lifting was.falls was.leads c.as_slice.ensures.value c.release.ensures.base c.release.ensures.length in
+    subst (λ o. Falls c.release.new.self.cycle_base.items o.items) (sym c.release.ensures.order) rel.falls
 
 pub lift_part-requires-clause-cycle : goal.lift_part-requires-clause-cycle
 lift_part-requires-clause-cycle c =
@@ -43,8 +43,8 @@ lift_part-requires-clause-cycle c =
     let size : ℕ = c.index.result.now in
     let less : cy.height < length cy.sizes.items = (let t = c.loop-cycles-test.true in let e = c.len.ensures in omega arith) in
     let size_is : size ≡ get_or cy.sizes.items cy.height 0 = c.index.ensures ∙ at_default cy.sizes.items cy.height size 0 less in
-    let rel = latest_released g c.args.mates.now (stacked c.args.cycles.now) c.loop-cycles.mates c.loop-cycles.blossoms.base.items c.release.new.self.base.items c.loop-cycles.blossoms.order.items cy size c.as_slice.result.now less was.top size_is was.fits was.lifting was.falls was.leads c.as_slice.ensures.value c.release.ensures.base c.release.ensures.length in
-    subst (λ (xs : List ℕ). IsLiftable g c.release.new.self.base.items xs c.loop-cycles.mates) (sym (cycle_slice c.as_mut_slice.result.now cy.nodes.items cy.top size c.as_mut_slice.ensures.value))
+    let rel = latest_released g c.args.mates.now (stacked c.args.cycles.now) c.loop-cycles.mates c.loop-cycles.blossoms.cycle_base.items c.release.new.self.cycle_base.items c.loop-cycles.blossoms.order.items cy size c.as_slice.result.now less was.top size_is was.fits was.lifting was.falls was.leads c.as_slice.ensures.value c.release.ensures.base c.release.ensures.length in
+    subst (λ (xs : List ℕ). IsLiftable g c.release.new.self.cycle_base.items xs c.loop-cycles.mates) (sym (cycle_slice c.as_mut_slice.result.now cy.nodes.items cy.top size c.as_mut_slice.ensures.value))
     (record { part = part_of rel.earlier; points = rel.released.points; is = rel.released.is; matching = rel.released.matching })
 
 pub loop-cycles-preserved : goal.loop-cycles-preserved
@@ -55,8 +55,8 @@ loop-cycles-preserved c =
     let size : ℕ = c.index.result.now in
     let less : cy.height < length cy.sizes.items = (let t = c.loop-cycles-test.true in let e = c.len.ensures in omega arith) in
     let size_is : size ≡ get_or cy.sizes.items cy.height 0 = c.index.ensures ∙ at_default cy.sizes.items cy.height size 0 less in
-    let rel = latest_released g c.args.mates.now (stacked c.args.cycles.now) c.loop-cycles.mates c.loop-cycles.blossoms.base.items c.release.new.self.base.items c.loop-cycles.blossoms.order.items cy size c.as_slice.result.now less was.top size_is was.fits was.lifting was.falls was.leads c.as_slice.ensures.value c.release.ensures.base c.release.ensures.length in
-    let pointers : List ℕ = c.release.new.self.base.items in
+    let rel = latest_released g c.args.mates.now (stacked c.args.cycles.now) c.loop-cycles.mates c.loop-cycles.blossoms.cycle_base.items c.release.new.self.cycle_base.items c.loop-cycles.blossoms.order.items cy size c.as_slice.result.now less was.top size_is was.fits was.lifting was.falls was.leads c.as_slice.ensures.value c.release.ensures.base c.release.ensures.length in
+    let pointers : List ℕ = c.release.new.self.cycle_base.items in
     let mates : List ℕ = c.loop-cycles.mates in
     let after : List ℕ = c.lift_part.new.mates in
     let nodes : List ℕ = c.lift_part.new.nodes in
@@ -75,9 +75,10 @@ loop-cycles-preserved c =
       lifting = subst (λ (fs : List Folding). IsUnfolding g c.args.mates.now (stacked c.args.cycles.now) after fs) (sym stack) one;
       falls = subst (λ o. Falls pointers o.items) (sym c.release.ensures.order) rel.falls;
       leads = subst (λ (fs : List Folding). Leads (length pointers) (at pointers) fs) (sym stack) h.leads;
-      base = base_release (at c.loop-cycles.blossoms.base.items) (at pointers) (at c.args.blossoms.now.base.items) (drop 1 cycle) rel.new was.base;
+      base = base_release (at c.loop-cycles.blossoms.cycle_base.items) (at pointers) (at c.args.blossoms.now.cycle_base.items) (drop 1 cycle) rel.new was.base;
       base_length = c.release.ensures.length ∙ was.base_length;
       order = c.release.ensures.order ∙ was.order;
+      pointers = c.release.ensures.pointers ∙ was.pointers;
       nodes = items_long ∙ was.nodes;
       sizes = was.sizes;
       top = omega arith;

@@ -10,11 +10,12 @@ use Rattle.match_blossom.proofs.lifting.lift_all.Given as goal
 abbrev pub invariant-loop-cycles : goal.invariant-loop-cycles
 invariant-loop-cycles l = record {
   lifting : IsUnfolding l.graph l.initial.mates (stacked l.initial.cycles) l.mates (stacked l.cycles);
-  falls : Falls l.blossoms.base.items l.blossoms.order.items;
-  leads : Leads (length l.blossoms.base.items) (at l.blossoms.base.items) (stacked l.cycles);
-  base : (u : ℕ) → (at l.blossoms.base.items u ≡ at l.initial.blossoms.base.items u) ⊎ (at l.blossoms.base.items u ≡ u);
-  base_length : length l.blossoms.base.items ≡ length l.initial.blossoms.base.items;
+  falls : Falls l.blossoms.cycle_base.items l.blossoms.order.items;
+  leads : Leads (length l.blossoms.cycle_base.items) (at l.blossoms.cycle_base.items) (stacked l.cycles);
+  base : (u : ℕ) → (at l.blossoms.cycle_base.items u ≡ at l.initial.blossoms.cycle_base.items u) ⊎ (at l.blossoms.cycle_base.items u ≡ u);
+  base_length : length l.blossoms.cycle_base.items ≡ length l.initial.blossoms.cycle_base.items;
   order : l.blossoms.order ≡ l.initial.blossoms.order;
+  pointers : l.blossoms.base ≡ l.initial.blossoms.base;
   nodes : length l.cycles.nodes.items ≡ length l.initial.cycles.nodes.items;
   sizes : l.cycles.sizes ≡ l.initial.cycles.sizes;
   top : l.cycles.top ≤ length l.cycles.nodes.items;

@@ -1,19 +1,18 @@
-use Rattle.std.proofs.Common.{arith, ap, sym, ◌∙◌, ◌≡◌, true, ℕ, List}
-use Rattle.match_barrier.specs.Graph.{adjacent, has}
+use Rattle.std.proofs.Common.{sym, ◌∙◌}
 use Rattle.match_blossom.proofs.lifting.touching_place.Goals as goal
 
-pub returns-in-Some-clause-touch : goal.returns-in-Some-clause-touch
-returns-in-Some-clause-touch c = λ part points.
-    let h = c.in-Some.ensures.some.1 in
+pub returns-clause-touch : goal.returns-clause-touch
+returns-clause-touch c = λ part points.
     let graph = c.node_count-nodes.ensures.graph in
-    let below = c.requires.below in
-    let long = c.requires.base_length in
-    let back : adjacent c.args.graph.now c.args.x h.0 ≡ true = ap (λ (xs : List ℕ). has xs h.0) (sym c.neighbours.ensures.list) ∙ h.1 in
+    let from = c.joining_edge-edge.result.from in
+    let to = c.joining_edge-edge.result.to in
+    let edge = c.joining_edge-edge.ensures.edge in
+    let joins = c.joining_edge-edge.ensures.joins part points in
     record {
-      from = h.0;
-      to = c.args.x;
-      below = graph.in_range c.args.x h.0 back;
-      edge = graph.symmetric h.0 c.args.x ∙ back;
-      from_class = h.2 part points;
-      to_class = points.own c.args.x (omega arith) c.requires.own;
+      from = from;
+      to = to;
+      below = graph.in_range to from (graph.symmetric to from ∙ edge);
+      edge = edge;
+      from_class = sym (c.base_by_cycles.ensures.base part points) ∙ c.in-Some.ensures.some.1;
+      to_class = joins.outside;
     }

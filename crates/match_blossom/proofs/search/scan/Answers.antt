@@ -35,6 +35,7 @@ returns-then-step c =
     record {
       augmented = subst (λ (r : ℕ). Augmented g c.args.mates.now after r) was.goes_on.root (subst (λ (m : List ℕ). Augmented g m after c.loop-v.tree.root) was.mates h.augmented);
       touched = h.touched;
+      cycle_touched = h.cycle_touched;
       now = h.now;
       lengths = lengths_trans c.args.tree.now c.loop-v.tree c.step.new.tree was.goes_on.lengths h.lengths;
     }

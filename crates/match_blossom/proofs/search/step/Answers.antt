@@ -1,44 +1,23 @@
-use Rattle.std.proofs.Common.{arith, refl, ap, sym, ◌≡◌, ◌<◌, ◌∙◌, inr, ℕ, length, get_or, true, false}
-use Rattle.std.proofs.lemmas.List.{get_or_read}
-use Rattle.match_blossom.specs.declared.tree.Label.TheVariants.{Outside}
-use Rattle.match_blossom.specs.Labels.{says_outer, says_inner, is_outer, is_inner}
-use Rattle.match_blossom.specs.Forest.{base_in}
-use Rattle.match_blossom.proofs.Scanning.{no_step}
+use Rattle.std.proofs.Common.{refl}
+use Rattle.match_blossom.specs.declared.tree.AlternatingTree.{AlternatingTree}
+use Rattle.match_blossom.specs.Shortened.{IsShortened}
+use Rattle.match_blossom.proofs.Shortening.{halved_trans, forest_shortened, goes_on_shortened, step_on}
 use Rattle.match_blossom.proofs.search.step.Goals as goal
 
-pub index-requires : goal.index-requires
-index-requires c =
-    let forest = c.requires.forest in
-    let g = c.args.graph.now in
-    let below : c.args.v < length g = c.node_count-nodes.ensures.graph.in_range c.args.u c.args.v c.requires.edge in
-    let part_below = forest.search.tree.part_below c.args.v below in
-    let is : c.base_of-b.result ≡ base_in c.args.tree.now c.args.v = c.base_of-b.ensures.base (base_in c.args.tree.now) forest.points in
-    let long = forest.search.labels_length in
-    omega (arith, c.args.tree.now.labels.ok.0)
+pub step_along-requires-clause-forest : goal.step_along-requires-clause-forest
+step_along-requires-clause-forest c =
+    let old : AlternatingTree = c.args.tree.now in
+    let mid : AlternatingTree = record old { blossoms = c.shorten-2.new.self } in
+    let short : IsShortened old mid = record { rest = refl; halved = halved_trans old.blossoms c.shorten.new.self c.shorten-2.new.self c.shorten.ensures c.shorten-2.ensures } in
+    forest_shortened c.args.graph.now c.args.mates.now old mid c.requires.forest short
 
-pub grow-requires-clause-matched : goal.grow-requires-clause-matched
-grow-requires-clause-matched c =
-    let forest = c.requires.forest in
-    let g = c.args.graph.now in
-    let b : ℕ = base_in c.args.tree.now c.args.v in
-    let below : c.args.v < length g = c.node_count-nodes.ensures.graph.in_range c.args.u c.args.v c.requires.edge in
-    let part_below : b < length g = forest.search.tree.part_below c.args.v below in
-    let is : c.base_of-b.result ≡ b = c.base_of-b.ensures.base (base_in c.args.tree.now) forest.points in
-    let long = forest.search.labels_length in
-    let label : c.index.result.now ≡ get_or c.args.tree.now.labels.items c.base_of-b.result Outside = get_or_read c.args.tree.now.labels.items c.base_of-b.result c.index.result.now (omega arith) c.index.ensures Outside in
-    let no_outer : is_outer c.args.tree.now.labels.items b ≡ false = ap (is_outer c.args.tree.now.labels.items) (sym is) ∙ ap says_outer (sym label ∙ c.in-Outside.is) in
-    let own : b ≡ c.args.v = forest.search.tree.alone c.args.v below no_outer in
-    (forest.search.tree.matching.mate c.args.v (below, own) refl (λ e. c.if-mates-v.false (e ∙ sym c.node_count-nodes.ensures.count))).0.0
+pub step_along-requires-clause-outer : goal.step_along-requires-clause-outer
+step_along-requires-clause-outer c = c.requires.outer
 
-pub returns-in-Inner : goal.returns-in-Inner
-returns-in-Inner c =
-    let forest = c.requires.forest in
+pub returns : goal.returns
+returns c =
     let g = c.args.graph.now in
-    let b : ℕ = base_in c.args.tree.now c.args.v in
-    let below : c.args.v < length g = c.node_count-nodes.ensures.graph.in_range c.args.u c.args.v c.requires.edge in
-    let part_below : b < length g = forest.search.tree.part_below c.args.v below in
-    let is : c.base_of-b.result ≡ b = c.base_of-b.ensures.base (base_in c.args.tree.now) forest.points in
-    let long = forest.search.labels_length in
-    let label : c.index.result.now ≡ get_or c.args.tree.now.labels.items c.base_of-b.result Outside = get_or_read c.args.tree.now.labels.items c.base_of-b.result c.index.result.now (omega arith) c.index.ensures Outside in
-    let inner : is_inner c.args.tree.now.labels.items b ≡ true = ap (is_inner c.args.tree.now.labels.items) (sym is) ∙ ap says_inner (sym label ∙ c.in-Inner.is) in
-    (refl, no_step g c.args.mates.now c.args.tree.now c.args.u c.args.v forest (inr inner))
+    let old : AlternatingTree = c.args.tree.now in
+    let mid : AlternatingTree = record old { blossoms = c.shorten-2.new.self } in
+    let short : IsShortened old mid = record { rest = refl; halved = halved_trans old.blossoms c.shorten.new.self c.shorten-2.new.self c.shorten.ensures c.shorten-2.ensures } in
+    step_on c.step_along.result g c.args.mates.now c.step_along.new.mates old mid c.step_along.new.tree c.args.u c.args.v (goes_on_shortened g old mid short) c.step_along.ensures

@@ -21,6 +21,7 @@ returns-clause-forest c =
     let l2 = k.parent_length in
     let l3 = k.base_length in
     let l4 = k.order_length in
+    let l9 = k.cycle_length in
     let l5 = k.touched_length in
     let l6 = k.queue_length in
     let l7 = k.nodes_length in
@@ -30,6 +31,7 @@ returns-clause-forest c =
     let full : c.args.self.now.cycles.height ≡ length c.args.self.now.cycles.sizes.items = omega arith in
     let empty : stacked c.args.self.now.cycles ≡ [] = no_cycles c.args.self.now.cycles full in
     let own : (u : ℕ) → u < length c.args.self.now.blossoms.base.items → at c.args.self.now.blossoms.base.items u ≡ u = λ u within. k.base u (omega arith) in
+    let alone : (u : ℕ) → u < length c.args.self.now.blossoms.cycle_base.items → at c.args.self.now.blossoms.cycle_base.items u ≡ u = λ u within. k.cycle_base u (omega arith) in
     let few = count_le (length g) (lives (part_of (stacked c.args.self.now.cycles))) in
     let t1 = length-set c.args.self.now.touched.items 0 root in
     let q1 = length-set c.args.self.now.queue.items 0 root in
@@ -38,11 +40,14 @@ returns-clause-forest c =
           (search_begins g c.args.mates.now root c.args.self.now.labels.items c.args.self.now.parent.items c.args.self.now.blossoms.order.items c.requires.matching c.requires.below c.requires.free (omega arith) (omega arith) (omega arith) k.labels);
       falls = record { below = λ u within. let e = own u within in omega arith; lower = λ u within away. absurd (away (own u within)) };
       points = subst (λ (fs : List Folding). Points c.args.self.now.blossoms.base.items (part_of fs)) (sym empty) (record { same = own; own = λ u within e. refl; living = λ u within e. own u within });
-      leads = subst (λ (fs : List Folding). Leads (length c.args.self.now.blossoms.base.items) (at c.args.self.now.blossoms.base.items) fs) (sym empty) own;
+      cycle_falls = record { below = λ u within. let e = alone u within in omega arith; lower = λ u within away. absurd (away (alone u within)) };
+      leads = subst (λ (fs : List Folding). Leads (length c.args.self.now.blossoms.cycle_base.items) (at c.args.self.now.blossoms.cycle_base.items) fs) (sym empty) alone;
       base_length = omega arith;
+      cycle_length = omega arith;
       fits = subst (λ (xs : List ℕ). Fits xs (drop c.args.self.now.cycles.top c.args.self.now.cycles.nodes.items)) (sym (no_sizes c.args.self.now.cycles.sizes.items c.args.self.now.cycles.height full)) tt;
       queue = subst (λ (fs : List Folding). IsQueue g (set c.args.self.now.labels.items root Outer) (part_of fs) (set c.args.self.now.queue.items 0 root) 1) (sym empty)
           (queue_begins g c.args.self.now.labels.items root c.args.self.now.queue.items c.requires.below (omega arith) (omega arith) k.labels);
       touched = touched_begins c.args.self.now.labels.items root c.args.self.now.blossoms.base.items c.args.self.now.touched.items (omega arith) (omega arith) (omega arith) k.labels own;
+      cycle_touched = touched_begins c.args.self.now.labels.items root c.args.self.now.blossoms.cycle_base.items c.args.self.now.touched.items (omega arith) (omega arith) (omega arith) k.labels alone;
       room = record { touched = omega arith; queue = omega arith; queued = omega arith; top = omega arith; top_below = omega arith; height = omega arith; height_below = omega arith };
     }

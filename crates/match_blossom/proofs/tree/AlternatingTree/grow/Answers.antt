@@ -1,10 +1,11 @@
-use Rattle.std.proofs.Common.{arith, refl, ap, inl, inr, set, get_or, ℕ, List, ◌∙◌, ◌+◌}
+use Rattle.std.proofs.Common.{arith, refl, ap, inl, inr, set, get_or, length, ℕ, List, ◌∙◌, ◌+◌}
 use Rattle.std.proofs.lemmas.List.{length-set, get_or-set_other}
 use Rattle.std.proofs.lemmas.Bool.{cases_eq}
 use Rattle.match_blossom.specs.Labels.{at, is_inner}
 use Rattle.match_blossom.specs.declared.tree.Label.{Label}
 use Rattle.match_blossom.specs.declared.tree.Label.TheVariants.{Outer, Inner}
 use Rattle.match_blossom.specs.Forest.{stacked, base_in}
+use Rattle.match_blossom.proofs.Contracted.{leads_points}
 use Rattle.match_blossom.proofs.Steps.{grown}
 use Rattle.match_blossom.proofs.Growth.{queue_grows, touched_grow, falls_grow}
 use Rattle.match_blossom.proofs.tree.AlternatingTree.grow.Goals as goal
@@ -36,6 +37,7 @@ returns c =
     let few = step.0.few in
     let labels_long = s.search.labels_length in
     let base_long = s.base_length in
+    let cycle_long = s.cycle_length in
     let room = s.room in
     let r1 = room.touched in
     let r2 = room.queue in
@@ -55,16 +57,20 @@ returns c =
         falls = falls_grow g c.args.mates.now c.args.self.now.root labels (set (set labels v Inner) w Outer) (stacked c.args.self.now.cycles) (at c.args.self.now.parent.items) (at c.args.self.now.blossoms.order.items) c.args.self.now.blossoms.base.items c.args.self.now.blossoms.order.items v w c.args.self.now.now (c.args.self.now.now + 1)
             s.search.tree s.search.folded grows s.points s.falls s.base_length;
         points = s.points;
+        cycle_falls = falls_grow g c.args.mates.now c.args.self.now.root labels (set (set labels v Inner) w Outer) (stacked c.args.self.now.cycles) (at c.args.self.now.parent.items) (at c.args.self.now.blossoms.order.items) c.args.self.now.blossoms.cycle_base.items c.args.self.now.blossoms.order.items v w c.args.self.now.now (c.args.self.now.now + 1)
+            s.search.tree s.search.folded grows (leads_points g (length c.args.self.now.blossoms.cycle_base.items) (at c.args.self.now.blossoms.cycle_base.items) (stacked c.args.self.now.cycles) s.search.folded s.leads) s.cycle_falls s.cycle_length;
         leads = s.leads;
         base_length = s.base_length;
+        cycle_length = s.cycle_length;
         fits = s.fits;
         queue = queue_grows g c.args.mates.now c.args.self.now.root labels (set (set labels v Inner) w Outer) (base_in c.args.self.now) (at c.args.self.now.parent.items) (at c.args.self.now.blossoms.order.items) c.args.self.now.queue.items c.args.self.now.queued v w s.search.tree grows s.queue (omega arith);
         touched = touched_grow g (base_in c.args.self.now) labels c.args.self.now.blossoms.base.items c.args.self.now.touched.items c.args.self.now.now v w s.touched (omega arith) (omega arith) (omega arith) (omega arith) (omega arith);
+        cycle_touched = touched_grow g (base_in c.args.self.now) labels c.args.self.now.blossoms.cycle_base.items c.args.self.now.touched.items c.args.self.now.now v w s.cycle_touched (omega arith) (omega arith) (omega arith) (omega arith) (omega arith);
         room = record { touched = omega arith; queue = omega arith; queued = omega arith; top = room.top; top_below = room.top_below; height = room.height; height_below = room.height_below };
       };
       goes_on = record {
         root = refl;
-        lengths = record { labels = l2 ∙ l1; parent = length-set c.args.self.now.parent.items v c.args.u; base = refl; order = o2 ∙ o1; touched = t2 ∙ t1; queue = q1; nodes = refl; sizes = refl };
+        lengths = record { labels = l2 ∙ l1; parent = length-set c.args.self.now.parent.items v c.args.u; base = refl; cycle_base = refl; order = o2 ∙ o1; touched = t2 ∙ t1; queue = q1; nodes = refl; sizes = refl };
         queue = λ k less. get_or-set_other c.args.self.now.queue.items c.args.self.now.queued k w 0 (λ e. absurd (omega arith));
         queued = omega arith;
         one = λ x y bx by e. e;

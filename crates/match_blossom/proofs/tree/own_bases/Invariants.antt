@@ -1,5 +1,5 @@
 use Rattle.std.proofs.Common.{◌≡◌, ℕ, ◌<◌, length, get_or}
-use Rattle.match_blossom.proofs.tree.AlternatingTree.reserve.Given as goal
+use Rattle.match_blossom.proofs.tree.own_bases.Given as goal
 
 abbrev pub invariant-loop-v : goal.invariant-loop-v
 invariant-loop-v l = record {

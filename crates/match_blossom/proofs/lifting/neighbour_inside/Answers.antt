@@ -1,8 +1,8 @@
-use Rattle.std.proofs.Common.{arith, subst, sym, get_or, ◌∙◌, ◌≡◌, ℕ, false}
+use Rattle.std.proofs.Common.{arith, subst, ap, sym, ◌∙◌, ◌≡◌, ℕ, false}
 use Rattle.match_barrier.specs.Graph.{has}
 use Rattle.match_barrier.proofs.Naming.{place_of}
 use Rattle.match_barrier.proofs.Edges.{has_at}
-use Rattle.match_blossom.proofs.lifting.neighbour_place.Goals as goal
+use Rattle.match_blossom.proofs.lifting.neighbour_inside.Goals as goal
 
 pub returns-clause-none : goal.returns-clause-none
 returns-clause-none c = λ part points from inside.
@@ -11,5 +11,7 @@ returns-clause-none c = λ part points from inside.
 
 pub returns-in-Some-clause-some : goal.returns-in-Some-clause-some
 returns-in-Some-clause-some c =
-    let h = c.in-Some.ensures.some in
-    (h.0, (get_or c.args.neighbours.now c.loop-from.from-index 0, has_at c.args.neighbours.now c.loop-from.from-index 0 c.loop-from-test.true, (λ part points. sym (c.base_of-base.ensures.base part points) ∙ h.1)))
+    let h = c.in-Some.ensures.some in (
+      has_at c.args.neighbours.now c.loop-from.from-index 0 c.loop-from-test.true,
+      (λ part points. ap (has c.args.cycle.now) (sym (c.base_by_cycles-base.ensures.base part points) ∙ h.1) ∙ has_at c.args.cycle.now _ 0 h.0),
+    )
