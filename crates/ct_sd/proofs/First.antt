@@ -104,6 +104,9 @@ pub faults_at_joined : (k : ℕ) (xs ys : List Kind) → faults_at k (xs ++ ys) 
 faults_at_joined k [] ys = refl
 faults_at_joined k (x ∷ xs) ys = ap (λ t. record { kind = x; place = k } ∷ t) (faults_at_joined k xs ys)
 
+pub four_lists : (f : Option Fault) (xs bs cs ds : List Fault) → first_of f (xs ++ (bs ++ (cs ++ ds))) ≡ first_of (first_of (first_of (first_of f xs) bs) cs) ds
+four_lists f xs bs cs ds = first_of_joined f xs (bs ++ (cs ++ ds)) ∙ (first_of_joined (first_of f xs) bs (cs ++ ds) ∙ first_of_joined (first_of (first_of f xs) bs) cs ds)
+
 -- what stands behind the first parts of a line
 pub first_of_two : (k : ℕ) (first : Option Fault) (xs ys : List Kind) → first_of first (faults_at k (xs ++ ys)) ≡ first_of (first_of first (faults_at k xs)) (faults_at k ys)
 first_of_two k first xs ys = ap (λ t. first_of first t) (faults_at_joined k xs ys) ∙ first_of_joined first (faults_at k xs) (faults_at k ys)

@@ -1,6 +1,21 @@
+pub mod NoneShown
 pub mod First
 pub mod Padding
 pub mod Reading
 pub mod Trimming
 pub mod Ranges
 pub mod Bounds
+pub mod LinesSoFar
+pub mod LineRoles
+pub mod FedLines
+pub mod Scanning
+pub mod Fronts
+pub mod LastRuns
+pub mod Goings
+pub mod Finding
+pub mod Passings
+pub mod LongRecords
+pub mod RunSizes
+pub mod RecordSteps
+pub mod KeptPairs
+mod RecordRows

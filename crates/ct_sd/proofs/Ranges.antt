@@ -1,5 +1,5 @@
 -- A line by its number.
-use Rattle.std.proofs.Common.{◌≡◌, ℕ, zero, suc, ◌<◌, ◌≤◌, ◌∙◌, List, [], ◌∷◌, length, drop, map, get_or, refl, ap, arith, subst, sym, All}
+use Rattle.std.proofs.Common.{◌≡◌, ℕ, zero, suc, ◌<◌, ◌≤◌, ◌∙◌, List, [], ◌∷◌, length, drop, map, get_or, refl, ap, arith, subst, sym}
 use Rattle.std.proofs.lemmas.List.{drop-map, drop_all, length-drop}
 use Rattle.std.proofs.lemmas.List.Elements.{All-drop}
 use Rattle.mc_base.specs.declared.span.Span.{Span}

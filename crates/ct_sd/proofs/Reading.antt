@@ -6,7 +6,7 @@ use Rattle.ct_sd.specs.declared.field.Field.{Field}
 use Rattle.ct_sd.specs.declared.field.Grammar.{Grammar}
 use Rattle.ct_sd.specs.declared.field.Grammar.TheVariants.{Count, Fixed}
 use Rattle.ct_sd.specs.Columns.{cut, columns}
-use Rattle.ct_sd.specs.Fields.{number_of, read, value, or_zero, within, is_within}
+use Rattle.ct_sd.specs.Fields.{field_shows, number_of, or_zero, read, shown_by, value, within, is_within}
 use Rattle.ct_sd.proofs.Bounds.{HasAtMost, count_small, grown}
 use Rattle.ct_sd.proofs.Padding.{count_padded, fixed_padded}
 
@@ -79,6 +79,27 @@ value_most f line l m low high = by_number (number_of f.grammar (columns f.from 
     by_number : (number : Option ℤ) → unsigned_abs (or_zero (within f number)) ≤ m
     by_number None = omega arith
     by_number (Some n) = by_test n (is_within f n) refl
+
+nat_large : (l k : ℕ) (high : Bool) → (nat_le l k && high) ≡ true → l ≤ k
+nat_large l k true is = grind (arith, nat_tests)
+nat_large l k false is = grind (arith, nat_tests)
+
+-- a field that shows nothing has no number below its least
+pub value_least : (f : Field) (line : List ℕ) (l : ℕ) → f.least ≡ pos l → field_shows f line ≡ [] → l ≤ unsigned_abs (value f line)
+unfolding value field_shows
+value_least f line l low none = by_number (number_of f.grammar (columns f.from f.to line)) none
+  where
+    large : (n : ℤ) → (int_le (pos l) n && int_le n f.most) ≡ true → l ≤ unsigned_abs n
+    large (pos k) is = nat_large l k (int_le (pos k) f.most) is
+    large (negsuc k) is = absurd cc
+
+    by_test : (n : ℤ) (t : Bool) → is_within f n ≡ t → shown_by f (if t then Some n else None) ≡ [] → l ≤ unsigned_abs (or_zero (if t then Some n else None))
+    by_test n true is shows = large n (sym (ap (λ (k : ℤ). int_le k n && int_le n f.most) low) ∙ is)
+    by_test n false is shows = absurd cc
+
+    by_number : (number : Option ℤ) → shown_by f (within f number) ≡ [] → l ≤ unsigned_abs (or_zero (within f number))
+    by_number None shows = absurd cc
+    by_number (Some n) shows = by_test n (is_within f n) refl shows
 
 pub read_most : (f : Field) (line : List ℕ) (l m : ℕ) → f.least ≡ pos l → f.most ≡ pos m → IfSome (read f line) (λ (n : ℤ). unsigned_abs n ≤ m)
 unfolding value

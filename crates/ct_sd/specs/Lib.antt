@@ -6,3 +6,8 @@ pub mod Bonds
 pub mod Heads
 pub mod Ranges
 pub mod DataLines
+pub mod Records
+pub mod LinesSoFar
+pub mod FoundRecords
+pub mod RecordReader
+pub mod Tables

@@ -1,6 +1,5 @@
 -- Lines as parts of a run of bytes.
 use Rattle.std.specs.Prelude.{ℕ, ◌-◌, ◌≤◌, ◌<◌, ◌^◌, List, [], ◌∷◌, length, take, drop, map, All}
-use Rattle.std.specs.Borrow.{Bor}
 use Rattle.mc_base.specs.declared.span.Span.{Span}
 use Rattle.ct_sd.specs.declared.record.Cut.{Cut}
 use Rattle.ct_sd.specs.declared.record.Cut.TheVariants.{Whole, Ranges}

@@ -1,6 +1,7 @@
 ghost use Rattle.std.specs.Prelude.{◌≡◌, ◌++◌, [], ◌∷◌, OnOk, OnErr};
-ghost use Rattle.ct_sd.specs.Bonds.{is_pair, is_joined};
+ghost use Rattle.ct_sd.specs.Bonds.{is_joined, in_order};
 
+use indexmap::IndexSet;
 use mc_base::NoMemory;
 use std::alloc::Global;
 use std::marker::Model;
@@ -9,23 +10,29 @@ use std::marker::Model;
 #[derive(Drop)]
 pub struct JoinedPairs {
     pairs: Vec<(u32, u32)>,
+    /// each pair once, its lesser atom first
+    seen: IndexSet<(u32, u32)>,
 }
 
 impl Model for JoinedPairs {
     ghost use Rattle.std.specs.Prelude.{List};
-    ghost use Rattle.ct_sd.specs.Bonds.{Pair};
+    ghost use Rattle.ct_sd.specs.Bonds.{Pair, KnowsPairs};
 
     ghost Value = { List Pair };
 
     ghost view = { λ j. j.pairs.items };
+
+    ghost invariant = { λ j. KnowsPairs j.seen.keys j.pairs.items };
 }
 
 impl JoinedPairs {
+    #[tactic(auto, using(crate::proofs::KeptPairs::knows_none))]
     pub fn new(alloc: Global) -> JoinedPairs
         ensures { result ≡ [] }
     {
         JoinedPairs {
             pairs: Vec::new(alloc),
+            seen: IndexSet::new(alloc),
         }
     }
 
@@ -33,7 +40,9 @@ impl JoinedPairs {
         ensures ok { OnOk result (self.new ≡ self.old ++ pair ∷ []) }
         ensures err { OnErr result (self.new ≡ self.old) }
     {
-        self.pairs.push(pair)?;
+        self.pairs.reserve(1)?;
+        self.seen.insert(in_order(pair))?;
+        self.pairs.push_reserved(pair);
         Ok(())
     }
 
@@ -41,12 +50,16 @@ impl JoinedPairs {
     pub fn contains(&self, pair: (u32, u32)) -> bool
         ensures { result ≡ is_joined pair.0 pair.1 self.now }
     {
-        self.pairs.iter().any(|other| is_pair(pair, *other))
+        self.seen.contains(&in_order(pair))
     }
 }
 
-fn is_pair(pair: (u32, u32), other: (u32, u32)) -> bool
-    ensures { result ≡ is_pair pair.0 pair.1 other }
+fn in_order(pair: (u32, u32)) -> (u32, u32)
+    ensures { result ≡ in_order pair.0 pair.1 }
 {
-    other.0 == pair.0 && other.1 == pair.1 || other.0 == pair.1 && other.1 == pair.0
+    if pair.0 <= pair.1 {
+        pair
+    } else {
+        (pair.1, pair.0)
+    }
 }
