@@ -3,6 +3,7 @@ use Rattle.std.proofs.Common.{arith, ◌≡◌, ◌∙◌, ℕ, zero, suc, ◌+�
 use Rattle.std.specs.Prelude.{All, slice_get, nat_lt, nat_abs, int_le, ℤ, pos, negsuc, ◌≤ℤ◌}
 use Rattle.std.proofs.lemmas.Bool.Decides.{nat_tests}
 use Rattle.std.proofs.lemmas.List.Elements.{All-cons, All-nil}
+use Rattle.std.proofs.lemmas.Bool.{and_parts}
 use Rattle.mc_base.specs.declared.kind.Kind.{Kind}
 use Rattle.mc_base.specs.declared.kind.Kind.TheVariants.{LimitRings, LimitIsotope, LimitClass, LimitCharge, LimitCoordinate, LimitHydrogens, ValenceShort, LimitValence, HydrogenOnHydrogen}
 use Rattle.mc_mol.specs.declared.drawing.Point.{Point}
@@ -56,10 +57,6 @@ placed true true e = (refl, refl)
 placed true false e = absurd (cc)
 placed false y e = absurd (cc)
 
-pub both : (x y : Bool) → (x && y) ≡ true → (x ≡ true) × (y ≡ true)
-both true y e = (refl, e)
-both false y e = absurd (cc)
-
 coordinate : (z : ℤ) → is_coordinate z ≡ true → IsCoordinate z
 coordinate z e = record { low = at_least (negsuc 99999998) z h.0; high = at_least z (pos 999999999) h.1 }
   where
@@ -67,7 +64,7 @@ coordinate z e = record { low = at_least (negsuc 99999998) z h.0; high = at_leas
     at_least a b e = grind (arith, nat_tests)
 
     h : (int_le (negsuc 99999998) z ≡ true) × (int_le z (pos 999999999) ≡ true)
-    h = both (int_le (negsuc 99999998) z) (int_le z (pos 999999999)) e
+    h = and_parts (int_le (negsuc 99999998) z) (int_le z (pos 999999999)) e
 
 -- the values of one atom
 record Fine (atom : TableAtom) : Type 0 where

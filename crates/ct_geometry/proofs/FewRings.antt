@@ -5,19 +5,12 @@ use Rattle.std.proofs.lemmas.Bool.Decides.{nat_tests}
 use Rattle.mc_mol.specs.declared.parts.Bond.{Bond}
 use Rattle.mc_mol.specs.Parts.{count_below, begins_part, independent_rings}
 use Rattle.ct_geometry.specs.TableFaults.{ring_faults}
-
-at_most_one : (b : Bool) → (if b then 1 else 0) ≤ 1
-at_most_one true = omega arith
-at_most_one false = omega arith
-
-count_few : (p : ℕ → Bool) (n : ℕ) → count_below p n ≤ n
-count_few p zero = omega arith
-count_few p (suc n) = let before = count_few p n in let one = at_most_one (p n) in omega arith
+use Rattle.mc_mol.proofs.Labelled.{count_low}
 
 not_above : (rings : ℕ) → rings ≤ 99 → nat_lt 99 rings ≡ false
 not_above rings few = grind (arith, nat_tests)
 
 pub few_rings : (bonds : List Bond) (atoms : ℕ) → length bonds ≤ 99 → ring_faults (independent_rings bonds atoms) ≡ []
 few_rings bonds atoms few =
-    let parts = count_few (begins_part bonds) atoms in
+    let parts = count_low (begins_part bonds) atoms in
     rw (not_above (independent_rings bonds atoms) (omega arith)) refl

@@ -1,23 +1,26 @@
 -- Centres and sides of a table, one by one.
 use Rattle.std.proofs.Common.{arith, ◌≡◌, ◌∙◌, ℕ, zero, suc, ◌+◌, ◌<◌, ◌≤◌, Bool, false, List, [], ◌∷◌, ◌++◌, length, Option, None, Some, slice_get, true, refl, sym, ap, subst, inl, inr}
-use Rattle.std.specs.Prelude.{All, replicate}
+use Rattle.std.specs.Prelude.{All, AllPairs, map, replicate, slice_index_or}
 use Rattle.std.proofs.lemmas.List.{length-map, length-replicate}
 use Rattle.std.proofs.lemmas.Bool.{cases_eq, cases_lt}
+use Rattle.std.proofs.lemmas.List.Elements.{All-map}
+use Rattle.std.proofs.lemmas.List.Kept.{AllPairs-cons}
 use Rattle.mc_mol.specs.declared.parts.Sides.{Sides}
 use Rattle.mc_mol.specs.declared.parts.Slot.{Slot}
 use Rattle.mc_mol.specs.declared.parts.Bond.{Bond}
-use Rattle.mc_mol.specs.Molecule.{Molecule}
+use Rattle.mc_mol.specs.Molecule.{Molecule, joins}
 use Rattle.mc_mol.specs.WellFormed.{IsBond, IsMolecule, IsPlaceList, SidesFit}
 use Rattle.mc_mol.proofs.Lists.{slice_get-append_left, slice_get-append_past}
 use Rattle.mc_rings.specs.Centres.{may_be_centre}
 use Rattle.mc_rings.specs.SidePlaces.{may_have_sides}
 use Rattle.ct_sd.specs.declared.table.Table.{Table}
+use Rattle.ct_sd.specs.declared.table.TableBond.{TableBond}
 use Rattle.ct_geometry.specs.declared.wedge_read.WedgeRead.{WedgeRead}
 use Rattle.ct_geometry.specs.declared.wedge_read.WedgeRead.TheVariants as read
 use Rattle.ct_geometry.specs.CentresRead.{centre_given, is_ambiguous, up_to}
 use Rattle.ct_geometry.specs.Stands.{centre_read, centres_of, sides_of_bonds}
 use Rattle.ct_geometry.specs.TableSides.{drawn_sides}
-use Rattle.ct_geometry.specs.TableFaults.{IsTable}
+use Rattle.ct_sd.specs.Tables.{IsTable, IsTableBond}
 use Rattle.ct_geometry.specs.Tables.{atoms_of, bond_of, bonds_of, drawing_of, marks_of, without_stereo}
 use Rattle.ct_geometry.specs.Wedges.{begins}
 use Rattle.ct_geometry.proofs.Accepted.{length_with}
@@ -95,6 +98,36 @@ nothing_there A zero k x at = cc
 nothing_there A (suc n) zero x at = cc
 nothing_there A (suc n) (suc k) x at = nothing_there A n k x at
 
+bond_is : (n : ℕ) (bond : TableBond) → IsTableBond n bond → IsBond n (bond_of bond)
+bond_is n bond is = record {
+  first = is.first;
+  second = is.second;
+  different = is.different;
+  order_low = is.order_low;
+  order_high = let high = is.order_high in omega arith;
+}
+
+pairs_map : {A B : Type 0} (R : B → B → Type 0) (f : A → B) (xs : List A) → AllPairs (λ (x y : A). R (f x) (f y)) xs → AllPairs R (map f xs)
+pairs_map R f [] pairs = λ i j d less low. absurd (omega arith)
+pairs_map R f (x ∷ xs) pairs =
+    AllPairs-cons R (f x) (map f xs) (All-map (R (f x)) f xs (λ k d low. pairs 0 (suc k) d (omega arith) (omega arith)))
+    (pairs_map R f xs (λ i j d less low. pairs (suc i) (suc j) d (omega arith) (omega arith)))
+
+pub table_bonds : (table : Table) → IsTable table → All (IsBond (length table.atoms)) (bonds_of table.bonds)
+table_bonds table is =
+    All-map (IsBond (length table.atoms)) bond_of table.bonds (λ k d low. bond_is (length table.atoms) (slice_index_or table.bonds k d) (is.bonds k d low))
+
+pub table_once : (table : Table) → IsTable table → AllPairs (λ (b c : Bond). joins b c.first.0 c.second.0 ≡ false) (bonds_of table.bonds)
+table_once table is = pairs_map (λ (b c : Bond). joins b c.first.0 c.second.0 ≡ false) bond_of table.bonds is.once
+
+-- the same of its bonds and the number of its atoms, however they were come by
+pub bonds_there : (table : Table) (n : ℕ) (bonds : List Bond) → IsTable table → n ≡ length table.atoms → bonds ≡ bonds_of table.bonds → All (IsBond n) bonds
+bonds_there table n bonds is count same =
+    subst (λ (bs : List Bond). All (IsBond n) bs) (sym same) (subst (λ (m : ℕ). All (IsBond m) (bonds_of table.bonds)) (sym count) (table_bonds table is))
+
+pub bonds_once : (table : Table) (bonds : List Bond) → IsTable table → bonds ≡ bonds_of table.bonds → AllPairs (λ (b c : Bond). joins b c.first.0 c.second.0 ≡ false) bonds
+bonds_once table bonds is same = subst (λ (bs : List Bond). AllPairs (λ (b c : Bond). joins b c.first.0 c.second.0 ≡ false) bs) (sym same) (table_once table is)
+
 -- the atoms and bonds of a table are a molecule
 pub is_molecule : (table : Table) → IsTable table → IsMolecule (without_stereo table)
 is_molecule table is =
@@ -107,8 +140,8 @@ is_molecule table is =
       few_bonds = omega arith;
       centre_count = length-replicate (length (atoms_of table)) None;
       side_count = length-replicate (length (bonds_of table.bonds)) None;
-      bonds = subst (λ (n : ℕ). All (IsBond n) (bonds_of table.bonds)) (sym count) is.bonds;
-      once = is.once;
+      bonds = subst (λ (n : ℕ). All (IsBond n) (bonds_of table.bonds)) (sym count) (table_bonds table is);
+      once = table_once table is;
       centres = λ a places at. absurd (nothing_there (List Slot) (length (atoms_of table)) a places at);
       sides = λ k bond sides at_bond at. absurd (nothing_there Sides (length (bonds_of table.bonds)) k sides at);
     }

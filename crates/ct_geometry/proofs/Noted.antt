@@ -10,9 +10,6 @@ use Rattle.ct_sd.specs.Faults.{first_of, faults_at}
 use Rattle.ct_sd.proofs.First.{first_of_joined, first_of_two}
 use Rattle.ct_geometry.specs.TableFaults.{atom_shows, atom_faults}
 
-pub first_of_both : (k : ℕ) (first : Option Fault) (xs ys : List Kind) → first_of first (faults_at k (xs ++ ys)) ≡ first_of (first_of first (faults_at k xs)) (faults_at k ys)
-first_of_both k first xs ys = first_of_two k first xs ys
-
 pub first_of_four : (k : ℕ) (first : Option Fault) (a b c d : List Kind)
     → first_of (first_of (first_of (first_of first (faults_at k a)) (faults_at k b)) (faults_at k c)) (faults_at k d) ≡ first_of first (faults_at k (a ++ (b ++ (c ++ d))))
 first_of_four k first a b c d = sym

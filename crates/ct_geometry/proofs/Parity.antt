@@ -17,6 +17,7 @@ use Rattle.ct_geometry.specs.Turns.{Vector, is_wide}
 use Rattle.ct_geometry.specs.Wedges.{exchanged, met_from, others, up_list, wedge_list}
 use Rattle.ct_geometry.proofs.Apart.{Each, Apart, apart_met, apart_others, each_met, each_other, length_met}
 use Rattle.ct_geometry.proofs.Others.{but_first_of_three, but_second_of_three, but_third_of_three, but_first_of_four, but_second_of_four, but_third_of_four, but_fourth_of_four}
+use Rattle.mc_mol.proofs.Slots.{same_is, same_self}
 
 -- ---- numbers
 
@@ -66,16 +67,6 @@ next_even m n (inl e) odd = grind (arith, nat_tests)
 next_even m n (inr e) odd = grind (arith, nat_tests)
 
 -- ---- places
-
-same_is : (r s : Slot) → same_slot r s ≡ true → r ≡ s
-same_is (At a) (At b) e = (let h : a.0 ≡ b.0 = grind (arith, nat_tests) in ap (λ (n : ℕ). At (record { 0 = n })) h)
-same_is Rest Rest e = refl
-same_is (At a) Rest e = cc
-same_is Rest (At b) e = cc
-
-same_self : (r : Slot) → same_slot r r ≡ true
-same_self (At a) = grind (arith, nat_tests)
-same_self Rest = refl
 
 first_within : (f : Slot → Bool) (xs : List Slot) (k : ℕ) (d : Slot) → k < length xs → f (get_or xs k d) ≡ true → position_or_len f xs < length xs
 first_within f [] k d within e = absurd (omega arith)

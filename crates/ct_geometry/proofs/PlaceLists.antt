@@ -2,7 +2,7 @@
 use Rattle.std.proofs.Common.{arith, ◌≡◌, ◌≢◌, ◌∙◌, ℕ, zero, suc, ◌+◌, ◌<◌, ◌==◌, ◌&&◌, ◌||◌, not, Bool, true, false, List, [], ◌∷◌, Some, length, map, filter, if◌then◌else◌, slice_get, refl, sym, ap, subst, inl, inr, ◌⊎◌}
 use Rattle.std.specs.List.{list_any}
 use Rattle.std.specs.Prelude.{All, AllPairs, Contains, ◌↔◌, Option}
-use Rattle.std.proofs.lemmas.Bool.{cases_eq}
+use Rattle.std.proofs.lemmas.Bool.{cases_eq, and_parts}
 use Rattle.std.proofs.lemmas.Bool.Decides.{nat_tests}
 use Rattle.std.proofs.lemmas.List.Elements.{All-cons, All-nil}
 use Rattle.std.proofs.lemmas.List.Kept.{AllPairs-cons}
@@ -27,10 +27,10 @@ use Rattle.ct_geometry.specs.Neighbours.{AreOfCentre, LeadTo}
 use Rattle.ct_geometry.specs.Wedges.{met_from, put_met, others, up_list, up_list_of_three, exchanged, by_mark, wedge_list, list_of, carries, first_list, is_drawn_as_centre, is_ambiguous, reading, read_wedges}
 use Rattle.ct_geometry.specs.declared.wedge_read.WedgeRead.{WedgeRead}
 use Rattle.ct_geometry.specs.declared.wedge_read.WedgeRead.TheVariants as read
-use Rattle.ct_geometry.proofs.Accepted.{both}
 use Rattle.ct_geometry.proofs.Apart.{Each, Other, Apart, each_met, apart_met, length_met, each_other, apart_others, others_differ}
 use Rattle.ct_geometry.proofs.Parity.{count_of, at_differ, at_no_rest}
 use Rattle.ct_geometry.proofs.Usable.{joined_of}
+use Rattle.mc_mol.proofs.Twins.{same_atom}
 
 -- ---- four places
 
@@ -209,9 +209,6 @@ module _ (ray_to : AtomId → Vector) (r : Vector) (P : AtomId → Type 0) where
   from_met [] all = tt
   from_met (x ∷ xs) all = (let h = from_put x (met_from ray_to r xs) all in (h.0, from_met xs h.1))
 
-same_atom : (a b : AtomId) → a.0 ≡ b.0 → a ≡ b
-same_atom a b e = ap (λ (n : ℕ). record { 0 = n }) e
-
 from_others : (P : AtomId → Type 0) (halves : List HalfEdge) (w : AtomId) → P w → Each P (others halves w) → (i : ℕ) (half : HalfEdge) → slice_get halves i ≡ Some half → P half.to
 from_others P [] w pw all i half at = cc
 from_others P (h ∷ halves) w pw all i half at = by_test (h.to.0 == w.0) refl (λ rest j at_j. from_others P halves w pw rest j half at_j) i at
@@ -314,8 +311,8 @@ centre_by may_be mark_of halves ray_to places e = by_tests (may_be && is_drawn_a
         → (if not b then read.None else (if c then read.Ambiguous else read.Centre (first_list mark_of halves ray_to halves))) ≡ read.Centre places
         → IsCentreBy may_be mark_of halves ray_to places
     by_tests true t false e =
-        let parts = both may_be (is_drawn_as_centre mark_of halves) t in
-        record { allowed = parts.0; some = (both (list_any (λ (half : HalfEdge). carries mark_of half) halves) _ parts.1).0; list = centre_is _ _ e }
+        let parts = and_parts may_be (is_drawn_as_centre mark_of halves) t in
+        record { allowed = parts.0; some = (and_parts (list_any (λ (half : HalfEdge). carries mark_of half) halves) _ parts.1).0; list = centre_is _ _ e }
     by_tests true t true e = cc
     by_tests false t c e = cc
 

@@ -1,4 +1,4 @@
--- What is wrong with the atoms of a table, and which tables are read (this project's own limits; BIOVIA CTfile Formats, valence field).
+-- What is wrong with the atoms of a table (this project's own limits; BIOVIA CTfile Formats, valence field).
 use Rattle.std.specs.Prelude.{◌≡◌, ℕ, ◌+◌, ◌≤◌, ◌&&◌, Bool, false, not, nat_lt, nat_abs, int_le, List, [], ◌∷◌, ◌++◌, Option, Some, None, ℤ, pos, negsuc, length, All, AllPairs}
 use Rattle.ct_sd.specs.declared.fault.Fault.{Fault}
 use Rattle.ct_sd.specs.declared.table.Table.{Table}
@@ -62,10 +62,3 @@ pub record AreValuesWithin (atom : TableAtom) : Type 0 where
   pub isotope : atom.isotope ≤ ISOTOPE_LIMIT
   pub class : atom.class ≤ CLASS_LIMIT
   pub charge : nat_abs atom.charge ≤ CHARGE_LIMIT
-
--- Which tables are read: no more atoms and bonds than the limits, and bonds between two different atoms that are there, no pair twice.
-pub record IsTable (table : Table) : Type 0 where
-  pub few_atoms : length table.atoms ≤ ATOM_LIMIT
-  pub few_bonds : length table.bonds ≤ BOND_LIMIT
-  pub bonds : All (IsBond (length table.atoms)) (bonds_of table.bonds)
-  pub once : AllPairs (λ (b c : Bond). joins b c.first.0 c.second.0 ≡ false) (bonds_of table.bonds)

@@ -6,7 +6,8 @@ ghost use Rattle.mc_mol.specs.Parts.{count_below};
 ghost use Rattle.mc_rings.specs.Rings.{AreRingsOf};
 ghost use Rattle.mc_rings.specs.Sound.{IsSound};
 ghost use Rattle.ct_geometry.specs.Stands.{IsReadOf, IsRefused, StandsAt, carries_centre, idle_count, is_idle, is_ring_side, is_some, kept_wedge, kept_wedges, centres_of, sides_of_bonds};
-ghost use Rattle.ct_geometry.specs.TableFaults.{IsTable, limit_faults};
+ghost use Rattle.ct_sd.specs.Tables.{IsTable};
+ghost use Rattle.ct_geometry.specs.TableFaults.{limit_faults};
 ghost use Rattle.ct_geometry.specs.Tables.{drawing_of, marks_of, without_stereo};
 
 use crate::marks::{is_wedge, mark_of};

@@ -109,7 +109,7 @@ fn note_valence(atom: TableAtom, sum: u32, place: u32, faults: &mut FirstFault)
     );
 }
 
-#[tactic(auto, using(crate::proofs::Noted::first_of_both))]
+#[tactic(auto, using(ct_sd::proofs::First::first_of_two))]
 fn note_atom(atom: TableAtom, sum: u32, place: u32, faults: &mut FirstFault)
     requires { sum ≤ 65535 }
     ensures { faults.new.fault ≡ first_of faults.old.fault (faults_at place (atom_shows atom sum)) }

@@ -8,7 +8,8 @@ ghost use Rattle.mc_mol.specs.Parts.{independent_rings};
 ghost use Rattle.mc_mol.specs.WellFormed.{IsBond};
 ghost use Rattle.ct_geometry.specs.Bounds.{ArePlaces};
 ghost use Rattle.ct_geometry.specs.Tables.{bond_of, bonds_of, drawing_of, marks_of, mark_of, point_of, without_stereo};
-ghost use Rattle.ct_geometry.specs.TableFaults.{IsTable, atom_faults, limit_faults, ring_faults};
+ghost use Rattle.ct_sd.specs.Tables.{IsTable};
+ghost use Rattle.ct_geometry.specs.TableFaults.{atom_faults, limit_faults, ring_faults};
 
 use crate::table_atoms::atoms_with;
 use crate::table_faults::{note_atoms, note_rings};

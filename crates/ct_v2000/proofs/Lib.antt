@@ -7,3 +7,4 @@ pub mod PropertyBlock
 pub mod SaidAtoms
 pub mod Refusals
 mod Rows
+pub mod SoundTables

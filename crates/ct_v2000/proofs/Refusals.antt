@@ -11,7 +11,7 @@ use Rattle.ct_sd.specs.declared.head.Version.TheVariants.{V2000, V3000, Other}
 use Rattle.ct_sd.specs.Faults.{first_of, faults_at, faults_of_lines, shown_if}
 use Rattle.ct_sd.specs.Fields.{value, read, fields_show}
 use Rattle.ct_sd.specs.Heads.{line, name_shows, version_of, is_other_file}
-use Rattle.ct_sd.proofs.First.{first_of_joined}
+use Rattle.ct_sd.proofs.First.{first_of_joined, four_lists}
 use Rattle.ct_sd.specs.declared.table.TableAtom.{TableAtom}
 use Rattle.ct_sd.specs.declared.table.TableBond.{TableBond}
 use Rattle.ct_v2000.specs.declared.atom_line.AtomLine.{AtomLine}
@@ -127,9 +127,6 @@ faults_are lines counts fault has =
     sym (ap (λ (a : ℕ). faults_by lines a counts.bonds (lines_counted counts)) has.counted.atoms
     ∙ (ap (λ (b : ℕ). faults_by lines (atom_count lines) b (lines_counted counts)) has.counted.bonds
     ∙ ap (λ (n : ℕ). faults_by lines (atom_count lines) (bond_count lines) n) (counts_are lines counts fault has)))
-
-four_lists : (f : Option Fault) (xs bs cs ds : List Fault) → first_of f (xs ++ (bs ++ (cs ++ ds))) ≡ first_of (first_of (first_of (first_of f xs) bs) cs) ds
-four_lists f xs bs cs ds = first_of_joined f xs (bs ++ (cs ++ ds)) ∙ (first_of_joined (first_of f xs) bs (cs ++ ds) ∙ first_of_joined (first_of (first_of f xs) bs) cs ds)
 
 -- what is kept behind the last line is the first fault of the record
 pub all_first : (lines : List (List ℕ)) (counts : Counts) (f0 f1 f2 : Option Fault) (given : List AtomLine) (atoms : List TableAtom) → HasCounts lines counts f0 → lines_counted counts ≤ length lines

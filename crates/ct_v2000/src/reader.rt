@@ -2,6 +2,7 @@ ghost use Rattle.std.specs.Prelude.{◌≡◌, ◌≤◌, ◌<◌, ◌+◌, ◌*
 ghost use Rattle.ct_sd.specs.declared.head.Version.TheVariants.{V2000, V3000};
 ghost use Rattle.ct_sd.specs.Faults.{IsRefused, first_of, faults_at, faults_of_lines};
 ghost use Rattle.ct_sd.specs.Heads.{version_of, name_shows};
+ghost use Rattle.ct_sd.specs.Tables.{IsTable};
 ghost use Rattle.ct_v2000.specs.AtomLines.{atom_line_shows, atom_lines_of};
 ghost use Rattle.ct_v2000.specs.BondLines.{bond_faults};
 ghost use Rattle.ct_v2000.specs.Table.{record_faults, is_short, IsTableOf, table_atoms, table_bonds, bonds_from};
@@ -17,9 +18,11 @@ use std::alloc::Global;
 
 /// Reads a record that isn't a V3000 record: its table, or the first kind that stands in it (`ShortRecord` to
 /// `ThreeD` but for `EnhancedStereo`, `AtomNumber`, `BondPair`), at its least place.
+#[tactic(auto, using(crate::proofs::SoundTables::read_is_sound))]
 pub fn read(alloc: Global, given: &Record<'_>) -> Result<Table, Stop>
     requires { version_of given.now ≡ V3000 → ⊥ }
     ensures ok { IfOk result (IsTableOf given.now) }
+    ensures sound { IfOk result IsTable }
     ensures err { IfErr result (IsRefused (record_faults given.now)) }
 {
     if given.line_count() < 4 {

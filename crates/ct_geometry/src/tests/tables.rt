@@ -1,6 +1,6 @@
 //! Tables of four atoms, as they are read.
 ghost use Rattle.std.specs.Prelude.{◌≡◌, length, IfOk};
-ghost use Rattle.ct_geometry.specs.TableFaults.{IsTable};
+ghost use Rattle.ct_sd.specs.Tables.{IsTable};
 
 use crate::{CtRead, read_ct};
 use ct_sd::{DrawMark, Table, TableAtom, TableAtoms, TableBond, TableBonds};

@@ -8,6 +8,7 @@ use Rattle.ct_v2000.proofs.reader.read.Goals as goal
 pub returns-in_default : goal.returns-in_default
 returns-in_default c = record {
   ok = tt;
+  sound = tt;
   err = c.refuse.ensures (record_faults c.args.given.now)
       (other_version c.args.given.now c.note_if.new.self.fault
       (subst (λ (n : ℕ). 4 ≤ n) c.line_count.ensures c.if-line_count-lt4.false)
