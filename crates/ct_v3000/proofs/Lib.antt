@@ -1,0 +1,10 @@
+mod WordSteps
+mod WordLists
+mod KindLists
+mod KeySteps
+mod JoinSteps
+mod ItemSteps
+mod EndSteps
+mod Sound
+mod Refusals
+mod Rows

@@ -1,0 +1,10 @@
+pub mod Joined
+pub mod Words
+pub mod Numbers
+pub mod Keys
+pub mod Blocks
+pub mod AtomLines
+pub mod BondLines
+pub mod OtherLines
+pub mod Table
+pub mod Steps
