@@ -1,5 +1,5 @@
 -- The marks of the lower-case bonds say which of all bonds are candidates.
-use Rattle.std.proofs.Common.{arith, ◌≡◌, ◌∙◌, ℕ, zero, suc, ◌+◌, ◌<◌, ◌≤◌, List, [], ◌∷◌, length, get_or, Bool, true, false, Option, Some, None, refl, ap, sym, subst, inl, inr}
+use Rattle.std.proofs.Common.{arith, ◌≡◌, ◌∙◌, ℕ, zero, suc, ◌+◌, ◌≤◌, List, [], ◌∷◌, length, get_or, Bool, true, false, Some, refl, ap, sym, subst}
 use Rattle.std.specs.List.{All, AllPairs, filter}
 use Rattle.std.specs.Prelude.{map, slice_get, ◌&&◌, ◌↔◌, if◌then◌else◌, cond}
 use Rattle.std.proofs.lemmas.Bool.{false≢true}
@@ -14,7 +14,7 @@ use Rattle.mc_mol.specs.WellFormed.{IsBond}
 use Rattle.smi_graph.specs.declared.skel_atom.SkelAtom.{SkelAtom}
 use Rattle.smi_graph.specs.declared.text_bond.TextBond.{TextBond}
 use Rattle.smi_graph.specs.Links.{bond_of, symbol}
-use Rattle.smi_graph.specs.Candidates.{is_lower, joins_lower, is_unmarked_or_aromatic, is_lower_bond, lower_bonds, marked, IsCandidate, AreCandidates}
+use Rattle.smi_graph.specs.Candidates.{is_lower, is_unmarked_or_aromatic, is_lower_bond, lower_bonds, marked, AreCandidates}
 use Rattle.smi_graph.specs.Skeletons.{AreBonds}
 use Rattle.smi_graph.specs.Spreading.{spread, AreOnPaths}
 use Rattle.smi_graph.proofs.Ahead.{map_here}

@@ -18,3 +18,9 @@ pub mod Closed
 pub mod Placing
 pub mod Plain
 pub mod CandidateMarks
+pub mod RingSlotsLaw
+pub mod Waiting
+pub mod EntriesLaw
+pub mod ListsLaw
+pub mod NeighbourCount
+pub mod SimpleBonds

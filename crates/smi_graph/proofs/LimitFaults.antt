@@ -17,15 +17,6 @@ use Rattle.smi_graph.specs.Rules.{fails, has_high_isotope, has_high_class, has_h
 use Rattle.smi_graph.specs.Faults.{IsFirstFault}
 use Rattle.smi_graph.proofs.TokenFaults.{not_both}
 
--- no more numbers pass than there are
-pub count_low : (p : ℕ → Bool) (n : ℕ) → count_below p n ≤ n
-count_low p zero = omega arith
-count_low p (suc n) = by_test (p n) (count_low p n)
-  where
-    by_test : (t : Bool) → count_below p n ≤ n → count_below p n + (if t then 1 else 0) ≤ suc n
-    by_test true le = omega arith
-    by_test false le = omega arith
-
 above_limit : (count most place : ℕ) → count ≤ most → IsAbove count most place → ⊥
 above_limit count most place few w = let more = w.1 in omega arith
 

@@ -19,7 +19,7 @@ use Rattle.smi_graph.specs.declared.text_bond.TextBond.{TextBond}
 use Rattle.smi_graph.specs.Roles.{role_of, roles, atom_of, atoms_of}
 use Rattle.smi_graph.specs.Bonds.{mark_of, ring_count, is_even, ring_end, latest_end, open_end, chain_bond, ring_bond, predecessor, completed, text_bonds}
 use Rattle.smi_graph.specs.Links.{or_else, symbol}
-use Rattle.smi_graph.specs.Candidates.{lower, is_lower, joins_lower, is_aromatic, is_aromatic_at_upper, bond_fails}
+use Rattle.smi_graph.specs.Candidates.{lower, is_lower, joins_lower, is_aromatic, bond_fails}
 use Rattle.smi_graph.specs.Order.{tokens_before}
 use Rattle.smi_graph.specs.Reading.{HasRead, held_atom, is_plain, all_plain}
 use Rattle.smi_graph.specs.Rules.{roles_in, atoms_in}

@@ -1,12 +1,12 @@
 -- What is found of a text, put together.
-use Rattle.std.proofs.Common.{arith, ◌≡◌, ◌∙◌, ℕ, ◌+◌, ◌≤◌, ◌<◌, List, [], length, reverse, Bool, true, false, Some, None, refl, ap, sym, subst, inl, inr}
+use Rattle.std.proofs.Common.{arith, ◌≡◌, ◌∙◌, ℕ, ◌+◌, ◌≤◌, ◌<◌, List, [], length, reverse, Bool, true, false, Option, Some, None, refl, ap, sym, subst, inl, inr}
 use Rattle.std.specs.List.{list_all}
 use Rattle.std.specs.Prelude.{map, slice_get, take}
 use Rattle.std.proofs.lemmas.Bool.{cases_lt, false_from_ne_true}
 use Rattle.std.proofs.lemmas.List.{length-map, length-reverse, take_all}
 use Rattle.mc_mol.specs.declared.limits.TheConstants.{BOND_LIMIT}
 use Rattle.mc_base.specs.declared.kind.Kind.{Kind}
-use Rattle.mc_base.specs.declared.kind.Kind.TheVariants.{RingPair, LimitAtoms, LimitBonds, LimitIsotope, LimitClass}
+use Rattle.mc_base.specs.declared.kind.Kind.TheVariants.{RingOpen, RingPair, LimitAtoms, LimitBonds, LimitIsotope, LimitClass}
 use Rattle.mc_base.specs.Shown.{IsFirst}
 use Rattle.smi_lex.specs.declared.token.Token.{Token}
 use Rattle.smi_lex.specs.Tokens.{tokens, unread}
@@ -18,7 +18,11 @@ use Rattle.smi_graph.specs.declared.text_bond.TextBond.{TextBond}
 use Rattle.smi_graph.specs.Roles.{role_of, atoms_of}
 use Rattle.smi_graph.specs.RingRules.{pair_again_at}
 use Rattle.smi_graph.specs.Order.{tokens_before}
-use Rattle.smi_graph.specs.Bonds.{atom_count, text_bonds}
+use Rattle.smi_graph.specs.Bonds.{atom_count, open_end, text_bonds}
+use Rattle.mc_base.specs.declared.ids.AtomId.{AtomId}
+use Rattle.smi_graph.specs.declared.ring_table.RingEnd.{RingEnd}
+use Rattle.smi_graph.specs.RingSlots.{HoldsNeighbours, AreEntries}
+use Rattle.smi_graph.proofs.ListsLaw.{AreHeld, are_held}
 use Rattle.smi_graph.specs.Links.{bond_of}
 use Rattle.smi_graph.specs.Candidates.{AreCandidates}
 use Rattle.smi_graph.specs.Reading.{held_atom, HasRead}
@@ -118,11 +122,32 @@ few_within text bs held within = (
   low (length bs) (λ more. within LimitBonds (length (map bond_of bs)) (refl, subst (λ (n : ℕ). BOND_LIMIT < n) (sym (length-map bs bond_of)) more)),
 )
 
+none_open : (text : List ℕ) → IsFirstFault (WrongAt (roles_in text)) None → (n : ℕ) → open_end n (reverse (roles_in text)) ≡ None
+none_open text right n = by_end (open_end n (reverse (roles_in text))) refl
+  where
+    by_end : (o : Option RingEnd) → open_end n (reverse (roles_in text)) ≡ o → o ≡ None
+    by_end None e = refl
+    by_end (Some end) e = absurd (right RingOpen end.token (n, end, e, refl))
+
+-- the neighbours that the reader has of a text of which no token is wrong
+pub lists_of : (text : List ℕ) (r : Reader) (lists : List (List AtomId)) (led : List Bool) → HasRead (tokens text) r → r.structure.tokens ≡ length (tokens text)
+    → Has text r.structure.bonds.items r.atoms.items → IsFirstFault (WrongAt (roles_in text)) None
+    → ((before : List Role) → HoldsNeighbours r.structure.neighbours before → AreEntries before lists) → led ≡ r.structure.neighbours.led.items
+    → AreHeld (roles_in text) (length r.atoms.items) lists led
+lists_of text r lists led has all h right entries is =
+    let ks : List Role = roles_in text in
+    let count : r.structure.tokens ≡ length ks = all ∙ sym (length-map (tokens text) (λ token. role_of token.kind)) in
+    let before : tokens_before ks r.structure.tokens ≡ reverse ks = ap (tokens_before ks) count ∙ all_before ks in
+    let holds : HoldsNeighbours r.structure.neighbours (reverse ks) = subst (λ (x : List Role). HoldsNeighbours r.structure.neighbours x) before has.follows.reads.neighbours in
+    are_held ks r.structure.neighbours lists led (length r.atoms.items) holds (entries (reverse ks) holds) is
+    (count_atoms (tokens text) ∙ sym (size text r.atoms.items h.atoms)) (none_open text right)
+
 -- a text with no fault
 pub nothing : (text : List ℕ) (bs : List TextBond) (held : List SkelAtom) (candidates : List Bool) → Has text bs held
     → IsFirstFault (WrongAt (roles_in text)) None → IsFirstFault (AromaticAt held bs) None → IsFirstFault (BeyondAt held (map bond_of bs)) None → AreCandidates held bs candidates
-    → IsSkeleton text (record { atoms = held; bonds = bs; candidates = candidates })
-nothing text bs held candidates h right lower within are =
+    → (lists : List (List AtomId)) (led : List Bool) → AreHeld (roles_in text) (length held) lists led
+    → IsSkeleton text (record { atoms = held; bonds = bs; candidates = candidates; neighbours = lists; led = led })
+nothing text bs held candidates h right lower within are lists led held_lists =
     let inside : IsFirstFault (BeyondAt (atoms_in text) (bonds_in text)) None = λ kind place w. within kind place (as_held text bs held h kind place w) in
     let isotopes : (k : ℕ) → fails has_high_isotope (slice_get (atoms_in text) k) ≡ false = λ k. false_from_ne_true _ (λ holds. inside LimitIsotope (k + 1) (k, refl, holds)) in
     let classes : (k : ℕ) → fails has_high_class (slice_get (atoms_in text) k) ≡ false = λ k. false_from_ne_true _ (λ holds. inside LimitClass (k + 1) (k, refl, holds)) in
@@ -131,5 +156,6 @@ nothing text bs held candidates h right lower within are =
       accepted = shows_nothing text h.whole h.built right (λ kind place w. lower kind place (held_aromatic text bs held h kind place w)) inside;
       atoms = h.atoms ∙ all_held (atoms_in text) isotopes classes;
       bonds = h.bonds;
-      limits = record { few_atoms = few_ones.0; few_bonds = few_ones.1; sound = sound text bs held h right; candidates = are };
+      neighbours = record { lists = held_lists.lists_are; led = held_lists.led_are };
+      limits = record { few_atoms = few_ones.0; few_bonds = few_ones.1; sound = sound text bs held h right; candidates = are; lists = held_lists.lists_count; led = held_lists.led_count };
     }

@@ -7,6 +7,8 @@ pub mod RingRules
 pub mod Rules
 pub mod Branches
 pub mod RingTables
+pub mod TextOrder
+pub mod RingSlots
 pub mod Firsts
 pub mod Reading
 pub mod Skeletons

@@ -1,6 +1,6 @@
 -- What a reader keeps of the tokens so far.
 use Rattle.std.specs.List.{list_all}
-use Rattle.std.specs.Prelude.{◌≡◌, ◌≤◌, ℕ, Bool, true, false, List, [], ◌∷◌, Option, Some, None, length, map, take, min, All, AllPairs, not, ◌||◌, ◌&&◌}
+use Rattle.std.specs.Prelude.{◌≡◌, ◌≤◌, ℕ, Bool, true, List, [], ◌∷◌, Option, Some, None, length, map, take, min, All, AllPairs, not, ◌||◌, ◌&&◌}
 use Rattle.smi_graph.specs.declared.skel_atom.SkelAtom.{SkelAtom}
 use Rattle.smi_lex.specs.declared.token.BondMark.{BondMark}
 use Rattle.smi_lex.specs.declared.token.Token.{Token}
@@ -12,6 +12,7 @@ use Rattle.smi_graph.specs.declared.structure.Structure.{Structure}
 use Rattle.smi_graph.specs.declared.reader.Reader.{Reader}
 use Rattle.smi_graph.specs.Branches.{AreOpen}
 use Rattle.smi_graph.specs.RingTables.{HoldsEnds}
+use Rattle.smi_graph.specs.RingSlots.{HoldsNeighbours}
 use Rattle.smi_graph.specs.Firsts.{AreFirst}
 use Rattle.smi_graph.specs.Order.{latest, is_stray_bond, depth, tokens_before}
 use Rattle.smi_graph.specs.Bonds.{atom_count, text_bonds}
@@ -70,6 +71,7 @@ pub record Reads (s : Structure) (before : List Role) : Type 0 where
   pub latest : s.latest ≡ latest before
   pub branches : AreOpen s.branches before
   pub rings : HoldsEnds s.rings before
+  pub neighbours : HoldsNeighbours s.neighbours before
 
 -- the structure is that of the first tokens of these
 pub record Follows (ks : List Role) (s : Structure) : Type 0 where

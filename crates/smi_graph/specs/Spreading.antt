@@ -1,5 +1,5 @@
 -- How the candidates of a text are found: by the marks of its lower-case bonds alone.
-use Rattle.std.specs.Prelude.{◌≡◌, ◌↔◌, ◌+◌, ℕ, Bool, true, false, ◌&&◌, List, [], ◌∷◌, Some, slice_get, length, if◌then◌else◌}
+use Rattle.std.specs.Prelude.{◌≡◌, ◌↔◌, ◌+◌, ℕ, Bool, true, ◌&&◌, List, [], ◌∷◌, Some, slice_get, length, if◌then◌else◌}
 use Rattle.mc_mol.specs.declared.parts.Bond.{Bond}
 use Rattle.mc_mol.specs.ClosedPaths.{LiesOnClosedPath}
 use Rattle.smi_graph.specs.declared.text_bond.TextBond.{TextBond}

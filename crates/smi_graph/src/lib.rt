@@ -2,6 +2,7 @@
 #![tactic(auto)]
 
 mod aromatic_bonds;
+mod atom_lists;
 mod branches;
 mod candidates;
 mod first_faults;
@@ -21,6 +22,7 @@ mod token_order;
 mod tokens;
 mod unclosed;
 
+pub use candidates::is_marked;
 pub use read::read_skeleton;
 pub use ring_table::RingEnd;
 pub use role::Role;

@@ -36,5 +36,7 @@ pub fn read_skeleton(alloc: Global, text: &[u8]) -> Result<Skeleton, Stop>
         return Err(Stop::Refused(Refusal::at(alloc, fault.kind, fault.place)));
     }
     let candidates = candidates(alloc, atoms, bonds, reader.all_plain)?;
-    Ok(Skeleton::new(reader.atoms, reader.structure.into_bonds(), candidates))
+    let (bonds, lists) = reader.structure.into_parts();
+    let (neighbours, led) = lists.into_parts();
+    Ok(Skeleton::new(reader.atoms, bonds, candidates, neighbours, led))
 }

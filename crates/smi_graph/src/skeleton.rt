@@ -4,6 +4,7 @@ ghost use Rattle.smi_graph.specs.Skeletons.{link_of};
 use crate::candidates::is_marked;
 use crate::{SkelAtom, TextBond};
 use mc_base::{AtomId, BondId};
+use smallvec::SmallVec;
 use std::marker::Model;
 
 /// What is known of a bond before double bonds are placed.
@@ -40,31 +41,45 @@ pub struct Skeleton {
     bonds: Vec<TextBond>,
     /// for each bond whether it is a candidate; nothing where no atom is in lower case
     candidates: Vec<bool>,
+    /// for each atom its neighbours, in the order in which they stand at it
+    neighbours: Vec<SmallVec<AtomId, 4>>,
+    /// for each atom whether the first of them is its predecessor
+    led: Vec<bool>,
 }
 
 impl Model for Skeleton {
+    ghost use Rattle.smi_graph.specs.RingSlots.{lists_in};
     ghost use Rattle.smi_graph.specs.Skeletons.{TextGraph, IsTextGraph};
 
     ghost Value = { TextGraph };
 
-    ghost view = { λ s. record { atoms = s.atoms.items; bonds = s.bonds.items; candidates = s.candidates.items } };
+    ghost view = { λ s. record { atoms = s.atoms.items; bonds = s.bonds.items; candidates = s.candidates.items; neighbours = lists_in s.neighbours.items; led = s.led.items } };
 
-    ghost invariant = { λ s. IsTextGraph (record { atoms = s.atoms.items; bonds = s.bonds.items; candidates = s.candidates.items }) };
+    ghost invariant = { λ s. IsTextGraph (record { atoms = s.atoms.items; bonds = s.bonds.items; candidates = s.candidates.items; neighbours = lists_in s.neighbours.items; led = s.led.items }) };
 }
 
 impl Skeleton {
     ghost use Rattle.std.specs.Prelude.{◌≡◌, ◌<◌, ◌≤◌, length, slice_get, Some};
     ghost use Rattle.smi_graph.specs.Candidates.{marked};
+    ghost use Rattle.smi_graph.specs.RingSlots.{lists_in};
     ghost use Rattle.smi_graph.specs.Skeletons.{linked_at, IsTextGraph};
 
-    pub(crate) fn new(atoms: Vec<SkelAtom>, bonds: Vec<TextBond>, candidates: Vec<bool>) -> Skeleton
-        requires { IsTextGraph (record { atoms = atoms.items; bonds = bonds.items; candidates = candidates.items }) }
-        ensures { result ≡ record { atoms = atoms.items; bonds = bonds.items; candidates = candidates.items } }
+    pub(crate) fn new(
+        atoms: Vec<SkelAtom>,
+        bonds: Vec<TextBond>,
+        candidates: Vec<bool>,
+        neighbours: Vec<SmallVec<AtomId, 4>>,
+        led: Vec<bool>,
+    ) -> Skeleton
+        requires { IsTextGraph (record { atoms = atoms.items; bonds = bonds.items; candidates = candidates.items; neighbours = lists_in neighbours.items; led = led.items }) }
+        ensures { result ≡ record { atoms = atoms.items; bonds = bonds.items; candidates = candidates.items; neighbours = lists_in neighbours.items; led = led.items } }
     {
         Skeleton {
             atoms,
             bonds,
             candidates,
+            neighbours,
+            led,
         }
     }
 
@@ -107,6 +122,23 @@ impl Skeleton {
         ensures { result ≡ marked self.now.candidates b.0 }
     {
         is_marked(&self.candidates, b.0 as usize)
+    }
+
+    /// The neighbours of an atom in the order in which they stand at it in the text: its predecessor, its ring partners
+    /// in the order of their numbers there, its branches and the next atom.
+    pub fn places(&self, a: AtomId) -> &[AtomId]
+        requires { a.0 < length self.now.atoms }
+        ensures { Some result.now ≡ slice_get self.now.neighbours a.0 }
+    {
+        self.neighbours[a.0 as usize].as_slice()
+    }
+
+    /// Whether an atom has a predecessor, which is then its first neighbour.
+    pub fn before(&self, a: AtomId) -> bool
+        requires { a.0 < length self.now.atoms }
+        ensures { Some result ≡ slice_get self.now.led a.0 }
+    {
+        self.led[a.0 as usize]
     }
 
     /// All atoms, in the order of the text.

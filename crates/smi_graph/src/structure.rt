@@ -3,6 +3,7 @@ ghost use Rattle.smi_graph.specs.declared.role.Role.{Role};
 ghost use Rattle.smi_graph.specs.Bonds.{atom_count};
 ghost use Rattle.smi_graph.specs.Reading.{mark_in};
 
+use crate::atom_lists::AtomLists;
 use crate::branches::Branches;
 use crate::first_faults::{Fault, FirstFaults};
 use crate::joined::pairs_again;
@@ -60,6 +61,7 @@ pub struct Structure {
     /// the latest token
     latest: Option<Role>,
     branches: Branches,
+    neighbours: AtomLists,
     rings: RingTable,
     /// which token may stand next, where none is misplaced
     order: TokenOrder,
@@ -78,18 +80,19 @@ impl Structure {
     ghost use Rattle.smi_graph.specs.Reading.{Follows, IsBehind, IsBounded, Reads};
     ghost use Rattle.smi_graph.specs.Rules.{WrongAt, roles_in};
 
-    /// Of no tokens, with room for so many bonds.
-    pub fn with_room(alloc: Global, bonds: usize) -> Result<Structure, AllocError>
+    /// Of no tokens, with room for so many atoms and as many bonds.
+    pub fn with_room(alloc: Global, room: usize) -> Result<Structure, AllocError>
         ensures follows { IfOk result (λ structure. (ks : List Role) → Follows ks structure) }
         ensures bounded { IfOk result IsBounded }
         ensures tokens { IfOk result (λ structure. structure.tokens ≡ 0) }
     {
         Ok(Structure {
-            bonds: Vec::with_capacity(alloc, bonds)?,
+            bonds: Vec::with_capacity(alloc, room)?,
             tokens: 0,
             count: 0,
             latest: None,
             branches: Branches::none(alloc),
+            neighbours: AtomLists::with_room(alloc, room)?,
             rings: RingTable::none(alloc),
             order: TokenOrder::start(),
             faults: FirstFaults::none(),
@@ -179,6 +182,7 @@ impl Structure {
         let here = self.here();
         self.rings.read(role, here)?;
         self.branches.read(role, self.count)?;
+        self.neighbours.read(role, here.atom, bond)?;
         push_some(&mut self.bonds, bond)?;
         self.count += atoms_of(role);
         self.tokens += 1;
@@ -288,8 +292,10 @@ impl Structure {
         Ok(None)
     }
 
-    pub fn into_bonds(self) -> Vec<TextBond>
-        ensures { result ≡ self.bonds }
+    /// The bonds, and the neighbours of the atoms.
+    pub fn into_parts(self) -> (Vec<TextBond>, AtomLists)
+        ensures bonds { result.0 ≡ self.bonds }
+        ensures neighbours { result.1 ≡ self.neighbours }
     {
         let Structure {
             bonds,
@@ -297,11 +303,12 @@ impl Structure {
             count: _,
             latest: _,
             branches: _,
+            neighbours,
             rings: _,
             order: _,
             faults: _,
         } = self;
-        bonds
+        (bonds, neighbours)
     }
 
     pub fn bonds(&self) -> &[TextBond]

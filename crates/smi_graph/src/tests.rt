@@ -1,4 +1,5 @@
 mod lower_case;
+mod neighbours;
 mod plain;
 
 use crate::{Link, SkelAtom, SkelBond, Skeleton, bonds_with_orders, read_skeleton};

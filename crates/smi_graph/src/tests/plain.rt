@@ -2,6 +2,7 @@
 //! byte is a token. It counts and looks for each place anew, and keeps nothing.
 
 use mc_base::Kind;
+use std::alloc::{AllocError, Global};
 
 fn at(text: &[u8], i: usize) -> Option<u8> {
     match text.get(i) {
@@ -186,4 +187,49 @@ pub fn fault(text: &[u8]) -> Option<(Kind, usize)> {
         }
     }
     None
+}
+
+/// The atom beside which a ring number stands that pairs with the one at a place.
+fn partner(text: &[u8], i: usize) -> Option<usize> {
+    if let Some(j) = opening(text, i) {
+        return Some(beside(text, j));
+    }
+    for j in i.saturating_add(1)..text.len() {
+        if at(text, j) == Some(b'1') {
+            return Some(beside(text, j));
+        }
+    }
+    None
+}
+
+/// The predecessor of an atom.
+pub fn predecessor_of(text: &[u8], atom: usize) -> Option<usize> {
+    for i in 0..text.len() {
+        if at(text, i) == Some(b'C') && count(text, b'C', i) == atom {
+            return predecessor(text, i);
+        }
+    }
+    None
+}
+
+/// The neighbours of an atom: its predecessor; its ring partners in the order in which their numbers stand at it; and
+/// the atoms whose predecessor it is, in the order of the text.
+pub fn neighbours(alloc: Global, text: &[u8], atom: usize) -> Result<Vec<usize>, AllocError> {
+    let mut found = Vec::new(alloc);
+    if let Some(first) = predecessor_of(text, atom) {
+        found.push(first)?;
+    }
+    for i in 0..text.len() {
+        if at(text, i) == Some(b'1') && beside(text, i) == atom {
+            if let Some(other) = partner(text, i) {
+                found.push(other)?;
+            }
+        }
+    }
+    for i in 0..text.len() {
+        if at(text, i) == Some(b'C') && predecessor(text, i) == Some(atom) {
+            found.push(count(text, b'C', i))?;
+        }
+    }
+    Ok(found)
 }

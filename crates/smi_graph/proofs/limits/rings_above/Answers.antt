@@ -4,7 +4,7 @@ use Rattle.mc_mol.specs.declared.parts.Bond.{Bond}
 use Rattle.mc_mol.specs.Parts.{begins_part, part_count}
 use Rattle.smi_graph.specs.Links.{bond_of}
 use Rattle.smi_graph.proofs.limits.rings_above.Goals as goal
-use Rattle.smi_graph.proofs.LimitFaults.{count_low}
+use Rattle.mc_mol.proofs.Labelled.{count_low}
 
 pub returns-then-bonds-clause-few : goal.returns-then-bonds-clause-few
 returns-then-bonds-clause-few c =

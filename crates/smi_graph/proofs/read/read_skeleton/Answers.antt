@@ -1,10 +1,10 @@
-use Rattle.std.proofs.Common.{arith, ◌∙◌, List, map, length, sym, subst}
-use Rattle.smi_graph.specs.declared.skel_atom.SkelAtom.{SkelAtom}
-use Rattle.smi_graph.specs.declared.text_bond.TextBond.{TextBond}
-use Rattle.smi_graph.specs.Candidates.{AreCandidates}
+use Rattle.std.proofs.Common.{arith, ◌∙◌, Vec, Bool, sym, subst, ap}
+use Rattle.std.specs.declared.alloc.Global.{Global}
+use Rattle.smi_graph.specs.declared.atom_lists.AtomLists.{AtomLists}
+use Rattle.smi_graph.specs.RingSlots.{HoldsNeighbours}
 use Rattle.smi_graph.proofs.Lifting.{shows_wrong}
 use Rattle.smi_graph.proofs.Plain.{plain_atoms, plain_bonds, reader_plain}
-use Rattle.smi_graph.proofs.Together.{has_all, sound, few, few_found, few_within, aromatic, beyond, nothing}
+use Rattle.smi_graph.proofs.Together.{has_all, sound, few, few_found, few_within, aromatic, beyond, nothing, lists_of}
 use Rattle.smi_graph.proofs.read.read_skeleton.Goals as goal
 
 pub returns-in-Some-clause-err : goal.returns-in-Some-clause-err
@@ -93,7 +93,10 @@ new-requires c =
     let lower = rw (c.as_slice-atoms.ensures.value, c.bonds-bonds.ensures) at c.in_default-aromatic_fault.ensures in
     let within = rw (c.in_default-2.is, c.as_slice-atoms.ensures.value, c.bonds-bonds.ensures) at c.in_ok-fault-2.ensures in
     let are = rw (c.as_slice-atoms.ensures.value, c.bonds-bonds.ensures) at c.in_ok-candidates.ensures in
-    rw c.into_bonds.ensures (nothing c.args.text.now _ _ c.in_ok-candidates.candidates.items has right lower within are).limits
+    let lists = lists_of c.args.text.now c.in-Ok.reader _ _ c.in-Ok.ensures.has c.in-Ok.ensures.all has right
+    (λ before holds. c.into_parts-neighbours.ensures.lists before (subst (λ (x : AtomLists). HoldsNeighbours x before) (sym c.into_parts-bonds.ensures.neighbours) holds))
+    (ap (λ (x : Vec Bool Global). x.items) c.into_parts-neighbours.ensures.led ∙ ap (λ (x : AtomLists). x.led.items) c.into_parts-bonds.ensures.neighbours) in
+    rw c.into_parts-bonds.ensures.bonds (nothing c.args.text.now _ _ c.in_ok-candidates.candidates.items has right lower within are _ _ lists).limits
 
 pub returns-clause-ok : goal.returns-clause-ok
 returns-clause-ok c =
@@ -102,4 +105,7 @@ returns-clause-ok c =
     let lower = rw (c.as_slice-atoms.ensures.value, c.bonds-bonds.ensures) at c.in_default-aromatic_fault.ensures in
     let within = rw (c.in_default-2.is, c.as_slice-atoms.ensures.value, c.bonds-bonds.ensures) at c.in_ok-fault-2.ensures in
     let are = rw (c.as_slice-atoms.ensures.value, c.bonds-bonds.ensures) at c.in_ok-candidates.ensures in
-    rw (c.new.ensures, c.into_bonds.ensures) (nothing c.args.text.now _ _ c.in_ok-candidates.candidates.items has right lower within are)
+    let lists = lists_of c.args.text.now c.in-Ok.reader _ _ c.in-Ok.ensures.has c.in-Ok.ensures.all has right
+    (λ before holds. c.into_parts-neighbours.ensures.lists before (subst (λ (x : AtomLists). HoldsNeighbours x before) (sym c.into_parts-bonds.ensures.neighbours) holds))
+    (ap (λ (x : Vec Bool Global). x.items) c.into_parts-neighbours.ensures.led ∙ ap (λ (x : AtomLists). x.led.items) c.into_parts-bonds.ensures.neighbours) in
+    rw (c.new.ensures, c.into_parts-bonds.ensures.bonds) (nothing c.args.text.now _ _ c.in_ok-candidates.candidates.items has right lower within are _ _ lists)

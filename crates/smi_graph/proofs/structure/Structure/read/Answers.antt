@@ -21,7 +21,7 @@ returns-clause-follows c = λ ks d less is follows.
     let more : c.args.role ∷ before ≡ tokens_before ks c.take.new.self.tokens =
     sym (tokens_before_more ks i d less ∙ ap (λ (k : Role). k ∷ before) is) ∙ ap (tokens_before ks) (sym same) in
     let reads : Reads c.look.new.self before = subst (λ (s : Structure). Reads s before) (sym c.look.ensures.others)
-    (record { bonds = follows.reads.bonds; tokens = follows.reads.tokens; count = follows.reads.count; latest = follows.reads.latest; branches = follows.reads.branches; rings = follows.reads.rings }) in
+    (record { bonds = follows.reads.bonds; tokens = follows.reads.tokens; count = follows.reads.count; latest = follows.reads.latest; branches = follows.reads.branches; rings = follows.reads.rings; neighbours = follows.reads.neighbours }) in
     record {
       reads = subst (λ (x : List Role). Reads c.take.new.self x) more (c.in_ok-take.ensures.reads before bond reads);
       order = λ none. subst (λ (o : TokenOrder). IsBehind o (tokens_before ks c.take.new.self.tokens)) (sym c.in_ok-take.ensures.order)

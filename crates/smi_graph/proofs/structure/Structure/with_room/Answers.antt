@@ -10,6 +10,7 @@ returns-clause-follows c = λ ks. record {
     latest = refl;
     branches = c.none.ensures;
     rings = c.none-2.ensures;
+    neighbours = c.in_ok-with_room.ensures;
   };
   order = λ none. c.start.ensures.behind;
   faults = c.none-3.ensures.first ks;
