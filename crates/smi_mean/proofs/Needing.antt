@@ -17,7 +17,7 @@ use Rattle.smi_mean.specs.Meaning.{hydrogens_of, meant_atom, atoms_with, meaning
 use Rattle.smi_mean.specs.Needs.{has_valence, is_one_short, needs_double, needs_in, needs}
 use Rattle.mc_mol.specs.Limits.{is_over, overvalent_at}
 use Rattle.smi_mean.specs.Rules.{overvalent_in}
-use Rattle.smi_mean.proofs.Soundness.{meant_at}
+use Rattle.smi_mean.proofs.MeantAtoms.{meant_at}
 
 -- An aromatic valence is no more than 6
 

@@ -4,6 +4,11 @@ use Rattle.std.specs.List.{All, AllPairs}
 use Rattle.std.specs.Prelude.{map, slice_get, ◌&&◌, ◌||◌, ◌==◌, if◌then◌else◌}
 use Rattle.std.proofs.lemmas.Bool.{false≢true}
 use Rattle.std.proofs.lemmas.List.{length-map}
+use Rattle.mc_base.specs.declared.ids.AtomId.{AtomId}
+use Rattle.mc_base.specs.declared.kind.Kind.TheVariants.{NoPlacement}
+use Rattle.mc_base.specs.declared.refusal.Stop.{Stop}
+use Rattle.mc_base.specs.declared.refusal.Stop.TheVariants.{Refused, NoMemory}
+use Rattle.mc_mol.specs.Limits.{overvalent_at, hydrogen_on_hydrogen_at}
 use Rattle.mc_mol.specs.declared.parts.Bond as bond
 use Rattle.mc_mol.specs.Molecule.{Molecule, joins, touches}
 use Rattle.mc_mol.specs.WellFormed.{IsBond}
@@ -13,8 +18,9 @@ use Rattle.smi_graph.specs.declared.text_bond.TextBond.{TextBond}
 use Rattle.smi_graph.specs.Candidates.{marked}
 use Rattle.smi_graph.specs.Links.{bond_of}
 use Rattle.smi_graph.specs.Rules.{atoms_in, bonds_in, text_bonds_in}
-use Rattle.smi_graph.specs.Skeletons.{AreBonds}
-use Rattle.smi_mean.specs.Meaning.{atoms_with, without_stereo, meaning}
+use Rattle.smi_graph.specs.Skeletons.{TextGraph, AreBonds}
+use Rattle.smi_mean.specs.Meaning.{atoms_with, without_stereo, meaning_of, meaning}
+use Rattle.smi_mean.specs.Meant.{IsUnder, IsMeantBy, IsBarred, IsUnplaced, IsFaulty, CantBePlaced}
 use Rattle.smi_mean.specs.Needs.{needs}
 use Rattle.smi_mean.specs.Placements.{placed_at, IsPlacement, raised_bond, raised, meaning_under, IsMoleculeOf}
 
@@ -128,3 +134,35 @@ raised_sound n placed bonds sound =
   where
     same_joins : (b b' c c' : bond.Bond) → IsRaised b b' → IsRaised c c' → joins b c.first.0 c.second.0 ≡ false → joins b' c'.first.0 c'.second.0 ≡ false
     same_joins b b' c c' x y h = rw (x.first, x.second, y.first, y.second) h
+
+-- What is placed is a molecule of the skeleton
+
+pub is_under : (skeleton : TextGraph) (m : Molecule) (placed : List Bool) → IsPlacement skeleton.atoms skeleton.bonds placed
+    → m ≡ meaning_under skeleton.atoms (map bond_of skeleton.bonds) placed → IsUnder skeleton m
+is_under skeleton m placed placement molecule = record { placed = placed; placement = placement; molecule = molecule }
+
+pub cant_be_placed : (skeleton : TextGraph) (barrier : List AtomId) (odd : ℕ) → IsBarred skeleton barrier odd
+    → IsUnplaced skeleton (record { kind = NoPlacement; place = 0; barrier = barrier; odd = odd })
+cant_be_placed skeleton barrier odd barred = record { kind = refl; place = refl; barred = barred }
+
+-- with no need, the molecule in which nothing is placed
+pub meant_alone : (skeleton : TextGraph) (m : Molecule) → ((k : ℕ) → overvalent_at (meaning_of skeleton.atoms (map bond_of skeleton.bonds)) k ≡ false)
+    → ((k : ℕ) → hydrogen_on_hydrogen_at (meaning_of skeleton.atoms (map bond_of skeleton.bonds)) k ≡ false)
+    → ((k : ℕ) → needs skeleton.atoms (map bond_of skeleton.bonds) k ≡ false) → m ≡ meaning_of skeleton.atoms (map bond_of skeleton.bonds) → IsMeantBy skeleton m
+meant_alone skeleton m valences hydrogens none is = record {
+  right = record { valences = valences; hydrogens = hydrogens };
+  under = record {
+    placed = none_placed skeleton.bonds;
+    placement = nothing_placed skeleton.atoms skeleton.bonds none;
+    molecule = is ∙ sym (ap (without_stereo (atoms_with (map bond_of skeleton.bonds) 0 skeleton.atoms)) (none_raised skeleton.bonds));
+  };
+}
+
+pub meant_placed : (skeleton : TextGraph) (m : Molecule) → ((k : ℕ) → overvalent_at (meaning_of skeleton.atoms (map bond_of skeleton.bonds)) k ≡ false)
+    → ((k : ℕ) → hydrogen_on_hydrogen_at (meaning_of skeleton.atoms (map bond_of skeleton.bonds)) k ≡ false) → IsUnder skeleton m → IsMeantBy skeleton m
+meant_placed skeleton m valences hydrogens under = record { right = record { valences = valences; hydrogens = hydrogens }; under = under }
+
+pub faulty_placed : (skeleton : TextGraph) (stop : Stop) → ((k : ℕ) → overvalent_at (meaning_of skeleton.atoms (map bond_of skeleton.bonds)) k ≡ false)
+    → ((k : ℕ) → hydrogen_on_hydrogen_at (meaning_of skeleton.atoms (map bond_of skeleton.bonds)) k ≡ false) → CantBePlaced skeleton stop → IsFaulty skeleton stop
+faulty_placed skeleton (Refused refusal) valences hydrogens unplaced = inr (record { right = record { valences = valences; hydrogens = hydrogens }; unplaced = unplaced })
+faulty_placed skeleton NoMemory valences hydrogens unplaced = tt

@@ -4,33 +4,33 @@ use Rattle.std.specs.Prelude.{map, ◌⊎◌}
 use Rattle.std.proofs.lemmas.Bool.{cases_lt, false_from_ne_true}
 use Rattle.std.proofs.lemmas.Option.{slice_get_past}
 use Rattle.mc_base.specs.declared.kind.Kind.{Kind}
-use Rattle.mc_base.specs.declared.kind.Kind.TheVariants.{NotBuilt, BadToken, Wildcard, OtherChirality, BadOrder, ParenOpen, RingOpen, RingClash, RingPair, AromaticBond, LimitAtoms, LimitBonds, LimitRings, LimitIsotope, LimitClass, LimitCharge, LimitValence, HydrogenOnHydrogen}
+use Rattle.mc_base.specs.declared.ids.AtomId.{AtomId}
+use Rattle.mc_base.specs.declared.kind.Kind.TheVariants.{NotBuilt, BadToken, Wildcard, OtherChirality, BadOrder, ParenOpen, RingOpen, RingClash, RingPair, AromaticBond, LimitAtoms, LimitBonds, LimitRings, LimitIsotope, LimitClass, LimitCharge, LimitValence, HydrogenOnHydrogen, NoPlacement}
 use Rattle.mc_base.specs.declared.refusal.Refusal.{Refusal}
 use Rattle.mc_base.specs.declared.refusal.Stop.{Stop}
 use Rattle.mc_base.specs.declared.refusal.Stop.TheVariants.{Refused, NoMemory}
 use Rattle.mc_base.specs.Kinds.{number}
-use Rattle.mc_base.specs.Shown.{IsFirst}
+use Rattle.mc_base.specs.Shown.{HasReason, IsFirst}
 use Rattle.mc_mol.specs.declared.parts.Bond.{Bond}
 use Rattle.mc_mol.specs.Molecule.{Molecule}
 use Rattle.mc_mol.specs.Limits.{overvalent_at, hydrogen_on_hydrogen_at}
 use Rattle.smi_graph.specs.declared.skel_atom.SkelAtom.{SkelAtom}
 use Rattle.smi_graph.specs.Firsts.{IsFirstOf}
-use Rattle.smi_graph.specs.Rules.{atoms_in, bonds_in, BreaksAt}
+use Rattle.smi_graph.specs.Rules.{atoms_in, bonds_in, text_bonds_in, BreaksAt}
 use Rattle.smi_graph.specs.declared.text_bond.TextBond.{TextBond}
 use Rattle.smi_graph.specs.Links.{bond_of}
 use Rattle.smi_graph.specs.Skeletons.{TextGraph, IsSkeleton, IsNoBarrier, IsBroken}
 use Rattle.smi_graph.proofs.TokenFaults.{not_both, earliest}
-use Rattle.smi_mean.specs.Meaning.{meaning_of, meaning}
-use Rattle.smi_mean.specs.Needs.{needs}
-use Rattle.smi_mean.specs.Placements.{IsMoleculeOf}
-use Rattle.smi_mean.specs.Rules.{IsWrongAtom, IsWrongIn, IsToPlace, StandsAt, SmilesStands, IsRefused}
-use Rattle.smi_mean.specs.Meant.{IsMeantBy, IsUnplaced, IsFaulty}
+use Rattle.smi_mean.specs.Meaning.{meaning_of}
+use Rattle.smi_mean.specs.Placements.{IsPlacement, HasNoPlacement, meaning_under, IsMoleculeOf}
+use Rattle.smi_mean.specs.Barriers.{IsBarrierIn, IsTextBarrier}
+use Rattle.smi_mean.specs.Rules.{IsWrongAtom, IsWrongIn, StandsAt, NoneStands, SmilesStands, IsRefused}
+use Rattle.smi_mean.specs.Meant.{IsRight, IsMeantBy, IsUnplacedRight, IsFaulty}
 use Rattle.smi_mean.proofs.Needing.{overvalent_same}
-use Rattle.smi_mean.proofs.Placing.{meaning_of_text, only_meaning}
 
 -- what breaks the tokens of a text stands in it
 breaks_stands : (text : List ℕ) (kind : Kind) (place : ℕ) → BreaksAt text kind place → StandsAt text kind place
-breaks_stands text NotBuilt place h = inl h
+breaks_stands text NoPlacement place h = absurd h
 breaks_stands text LimitValence place h = absurd h
 breaks_stands text HydrogenOnHydrogen place h = absurd h
 breaks_stands text _ place h = h
@@ -52,11 +52,13 @@ wrong_stands text LimitValence place h = h
 wrong_stands text HydrogenOnHydrogen place h = h
 wrong_stands text _ place h = absurd h
 
--- nothing else stands
-cases : (text : List ℕ) (kind : Kind) (place : ℕ) → StandsAt text kind place
-    → BreaksAt text kind place ⊎ (IsWrongIn (atoms_in text) (bonds_in text) kind place ⊎ ((place ≡ 1) × IsToPlace text))
-cases text NotBuilt place (inl h) = inl h
-cases text NotBuilt place (inr h) = inr (inr h)
+-- nothing else stands but that there is no placement
+record IsNowhere (text : List ℕ) (kind : Kind) : Type 0 where
+  number_is : number kind ≡ 39
+  none : HasNoPlacement (atoms_in text) (text_bonds_in text)
+
+cases : (text : List ℕ) (kind : Kind) (place : ℕ) → StandsAt text kind place → BreaksAt text kind place ⊎ (IsWrongIn (atoms_in text) (bonds_in text) kind place ⊎ IsNowhere text kind)
+cases text NoPlacement place h = inr (inr (record { number_is = refl; none = h.1 }))
 cases text LimitValence place h = inr (inl h)
 cases text HydrogenOnHydrogen place h = inr (inl h)
 cases text _ place h = inl h
@@ -65,6 +67,16 @@ wrong_late : (atoms : List SkelAtom) (bonds : List Bond) (kind : Kind) (place : 
 wrong_late atoms bonds LimitValence place w = omega arith
 wrong_late atoms bonds HydrogenOnHydrogen place w = omega arith
 wrong_late atoms bonds _ place w = absurd w
+
+wrong_early : (atoms : List SkelAtom) (bonds : List Bond) (kind : Kind) (place : ℕ) → IsWrongIn atoms bonds kind place → number kind < 39
+wrong_early atoms bonds LimitValence place w = omega arith
+wrong_early atoms bonds HydrogenOnHydrogen place w = omega arith
+wrong_early atoms bonds _ place w = absurd w
+
+-- what is said beside a kind that has no barrier is said whatever the barriers are
+reason_kept : (P : List AtomId → ℕ → Type 0) (kind : Kind) (barrier : List AtomId) (odd : ℕ) → HasReason IsNoBarrier kind barrier odd → HasReason P kind barrier odd
+reason_kept P NoPlacement barrier odd h = absurd h
+reason_kept P _ barrier odd h = h
 
 -- only the kinds of the tokens' rules break them
 few_break : (text : List ℕ) (kind : Kind) (place : ℕ) → BreaksAt text kind place → number kind < 37
@@ -86,7 +98,7 @@ few_break text LimitClass place h = omega arith
 few_break text LimitCharge place h = omega arith
 few_break text _ place h = absurd h
 
-first_stands : (text : List ℕ) (r : Refusal) → IsFirst (BreaksAt text) IsNoBarrier r → IsFirst (StandsAt text) IsNoBarrier r
+first_stands : (text : List ℕ) (r : Refusal) → IsFirst (BreaksAt text) IsNoBarrier r → IsFirst (StandsAt text) (IsTextBarrier text) r
 first_stands text r f =
     let few = few_break text r.kind r.place f.stands in
     record {
@@ -95,17 +107,17 @@ first_stands text r f =
         | inl b ↦ f.least place b
         | inr later ↦ elim later [
           | inl w ↦ let late = wrong_late (atoms_in text) (bonds_in text) r.kind place w in absurd (omega arith)
-          | inr p ↦ absurd (p.1.unbroken r.kind r.place f.stands)
+          | inr p ↦ let late = p.number_is in absurd (omega arith)
         ]
       ];
       first = λ kind place less h. elim (cases text kind place h) [
         | inl b ↦ f.first kind place less b
         | inr later ↦ elim later [
           | inl w ↦ let late = wrong_late (atoms_in text) (bonds_in text) kind place w in absurd (omega arith)
-          | inr p ↦ p.1.unbroken r.kind r.place f.stands
+          | inr p ↦ let late = p.number_is in absurd (omega arith)
         ]
       ];
-      reason = f.reason;
+      reason = reason_kept (IsTextBarrier text) r.kind r.barrier r.odd f.reason;
     }
 
 -- a refusal of the skeleton is one of the text
@@ -184,95 +196,108 @@ at_text : (P : List SkelAtom → List Bond → Type 0) (text : List ℕ) (skelet
 at_text P text skeleton s h =
     subst (λ (x : List TextBond). P (atoms_in text) (map bond_of x)) s.bonds (subst (λ (x : List SkelAtom). P x (map bond_of skeleton.bonds)) s.atoms h)
 
-shows_faulty : (text : List ℕ) (r : Refusal) → ((kind : Kind) (place : ℕ) → BreaksAt text kind place → ⊥) → SkeletonFaulty (atoms_in text) (bonds_in text) r → IsFirst (StandsAt text) IsNoBarrier r
-shows_faulty text r accepted f = record {
-  stands = wrong_stands text r.kind r.place f.stands;
-  least = λ place h. elim (cases text r.kind place h) [
-    | inl b ↦ absurd (accepted r.kind place b)
-    | inr later ↦ elim later [
-      | inl w ↦ f.least place w
-      | inr p ↦ absurd (p.1.right r.kind r.place f.stands)
-    ]
-  ];
+at_bonds : (P : List SkelAtom → List TextBond → Type 0) (text : List ℕ) (skeleton : TextGraph) → IsSkeleton text skeleton → P skeleton.atoms skeleton.bonds → P (atoms_in text) (text_bonds_in text)
+at_bonds P text skeleton s h = subst (λ (x : List TextBond). P (atoms_in text) x) s.bonds (subst (λ (x : List SkelAtom). P x skeleton.bonds) s.atoms h)
+
+shows_faulty : (text : List ℕ) (r : Refusal) → ((kind : Kind) (place : ℕ) → BreaksAt text kind place → ⊥) → SkeletonFaulty (atoms_in text) (bonds_in text) r → IsFirst (StandsAt text) (IsTextBarrier text) r
+shows_faulty text r accepted f =
+    let early = wrong_early (atoms_in text) (bonds_in text) r.kind r.place f.stands in
+    record {
+      stands = wrong_stands text r.kind r.place f.stands;
+      least = λ place h. elim (cases text r.kind place h) [
+        | inl b ↦ absurd (accepted r.kind place b)
+        | inr later ↦ elim later [
+          | inl w ↦ f.least place w
+          | inr p ↦ let late = p.number_is in absurd (omega arith)
+        ]
+      ];
+      first = λ kind place less h. elim (cases text kind place h) [
+        | inl b ↦ accepted kind place b
+        | inr later ↦ elim later [
+          | inl w ↦ f.first kind place less w
+          | inr p ↦ let late = p.number_is in absurd (omega arith)
+        ]
+      ];
+      reason = reason_kept (IsTextBarrier text) r.kind r.barrier r.odd f.reason;
+    }
+
+right_at_text : (text : List ℕ) (skeleton : TextGraph) → IsSkeleton text skeleton → IsRight skeleton.atoms (map bond_of skeleton.bonds) → IsRight (atoms_in text) (bonds_in text)
+right_at_text text skeleton s h = at_text IsRight text skeleton s h
+
+-- no kind stands at an atom of a skeleton
+none_wrong_in : (atoms : List SkelAtom) (bonds : List Bond) → IsRight atoms bonds → (kind : Kind) (place : ℕ) → IsWrongIn atoms bonds kind place → ⊥
+none_wrong_in atoms bonds right kind place w = none_wrong (meaning_of atoms bonds) right.valences right.hydrogens kind place (to_molecule atoms bonds kind place w)
+
+abbrev unplaced : List AtomId → ℕ → Refusal
+unplaced barrier odd = record { kind = NoPlacement; place = 0; barrier = barrier; odd = odd }
+
+shows_unplaced : (text : List ℕ) (barrier : List AtomId) (odd : ℕ) → ((kind : Kind) (place : ℕ) → BreaksAt text kind place → ⊥) → IsRight (atoms_in text) (bonds_in text)
+    → IsTextBarrier text barrier odd → HasNoPlacement (atoms_in text) (text_bonds_in text) → IsFirst (StandsAt text) (IsTextBarrier text) (unplaced barrier odd)
+shows_unplaced text barrier odd accepted right barrier_is none = record {
+  stands = (refl, none);
+  least = λ place h. omega arith;
   first = λ kind place less h. elim (cases text kind place h) [
     | inl b ↦ accepted kind place b
     | inr later ↦ elim later [
-      | inl w ↦ f.first kind place less w
-      | inr p ↦ p.1.right r.kind r.place f.stands
+      | inl w ↦ none_wrong_in (atoms_in text) (bonds_in text) right kind place w
+      | inr p ↦ let late = p.number_is in absurd (omega arith)
     ]
   ];
-  reason = f.reason;
+  reason = barrier_is;
 }
 
--- no kind stands at an atom, and one needs a double bond
-record Unplaced (atoms : List SkelAtom) (bonds : List Bond) : Type 0 where
-  valences : (k : ℕ) → overvalent_at (meaning_of atoms bonds) k ≡ false
-  hydrogens : (k : ℕ) → hydrogen_on_hydrogen_at (meaning_of atoms bonds) k ≡ false
-  atom : ℕ
-  needing : needs atoms bonds atom ≡ true
+unplaced_is : (r : Refusal) → r.kind ≡ NoPlacement → r.place ≡ 0 → unplaced r.barrier r.odd ≡ r
+unplaced_is r kind place = made r.kind r.place r.barrier r.odd kind place
+  where
+    made : (k : Kind) (p : ℕ) (barrier : List AtomId) (odd : ℕ) → k ≡ NoPlacement → p ≡ 0 → unplaced barrier odd ≡ record { kind = k; place = p; barrier = barrier; odd = odd }
+    made k p barrier odd e f = rw (e, f) refl
 
-shows_unplaced : (text : List ℕ) (r : Refusal) → ((kind : Kind) (place : ℕ) → BreaksAt text kind place → ⊥) → r ≡ record { kind = NotBuilt; place = 1; barrier = []; odd = 0 }
-    → Unplaced (atoms_in text) (bonds_in text) → IsFirst (StandsAt text) IsNoBarrier r
-shows_unplaced text r accepted is u = subst (IsFirst (StandsAt text) IsNoBarrier) (sym is) (record {
-  stands = inr (
-    refl,
-    record {
-      unbroken = accepted;
-      right = λ kind place w. none_wrong (meaning text) u.valences u.hydrogens kind place (to_molecule (atoms_in text) (bonds_in text) kind place w);
-      atom = u.atom;
-      needing = u.needing;
-    },
-  );
-  least = λ place h. elim h [
-    | inl b ↦ absurd (accepted NotBuilt place b)
-    | inr p ↦ let e = p.0 in omega arith
-  ];
-  first = λ kind place less h. absurd (omega arith);
-  reason = (refl, refl);
-})
-
--- a refusal of the molecule is one of the text
+-- a refusal of the skeleton's molecules is one of the text
 pub refused_of_faulty : (text : List ℕ) (skeleton : TextGraph) (stop : Stop) → IsSkeleton text skeleton → IsFaulty skeleton stop → IsRefused text stop
 refused_of_faulty text skeleton (Refused r) s (inl h) =
     shows_faulty text r s.accepted (at_text (λ atoms bonds. SkeletonFaulty atoms bonds r) text skeleton s (of_molecule skeleton.atoms (map bond_of skeleton.bonds) r h))
 refused_of_faulty text skeleton (Refused r) s (inr u) =
-    shows_unplaced text r s.accepted u.is (at_text Unplaced text skeleton s (record { valences = u.valences; hydrogens = u.hydrogens; atom = u.atom; needing = u.needing }))
+    subst (IsFirst (StandsAt text) (IsTextBarrier text)) (unplaced_is r u.unplaced.kind u.unplaced.place)
+    (shows_unplaced text r.barrier r.odd s.accepted (right_at_text text skeleton s u.right)
+    (at_bonds (λ atoms bonds. IsBarrierIn atoms bonds r.barrier r.odd) text skeleton s u.unplaced.barred.barrier_is)
+    (at_bonds HasNoPlacement text skeleton s u.unplaced.barred.none))
 refused_of_faulty text skeleton NoMemory s h = tt
 
--- the molecule of the skeleton's parts
-meant : (text : List ℕ) (skeleton : TextGraph) → IsSkeleton text skeleton → meaning_of skeleton.atoms (map bond_of skeleton.bonds) ≡ meaning text
-meant text skeleton s = ap (λ (x : List SkelAtom). meaning_of x (map bond_of skeleton.bonds)) s.atoms ∙ ap (λ (x : List TextBond). meaning_of (atoms_in text) (map bond_of x)) s.bonds
-
--- A text with no broken token, no wrong atom and none that needs a double bond stands for its molecule.
+-- A text with no broken token and no wrong atom stands for the molecule of its skeleton under a placement.
 pub stands_of : (text : List ℕ) (skeleton : TextGraph) (m : Molecule) → IsSkeleton text skeleton → IsMeantBy skeleton m → SmilesStands text m
 stands_of text skeleton m s h =
-    let is : m ≡ meaning text = h.molecule ∙ meant text skeleton s in
-    let none = at_text (λ atoms bonds. (k : ℕ) → needs atoms bonds k ≡ false) text skeleton s h.no_need in
+    let placement : IsPlacement (atoms_in text) (text_bonds_in text) h.under.placed = at_bonds (λ atoms bonds. IsPlacement atoms bonds h.under.placed) text skeleton s h.under.placement in
     record {
       accepted = λ kind place w. elim (cases text kind place w) [
         | inl b ↦ s.accepted kind place b
         | inr later ↦ elim later [
-          | inl a ↦ none_wrong m h.valences h.hydrogens kind place (subst (λ (x : Molecule). IsWrongAtom x kind place) (sym is) (to_molecule (atoms_in text) (bonds_in text) kind place a))
-          | inr p ↦ not_both _ p.1.needing (none p.1.atom)
+          | inl a ↦ none_wrong_in (atoms_in text) (bonds_in text) (right_at_text text skeleton s h.right) kind place a
+          | inr p ↦ p.none h.under.placed placement
         ]
       ];
-      molecule = subst (IsMoleculeOf text) (sym is) (meaning_of_text text none);
+      molecule = record {
+        placed = h.under.placed;
+        placement = placement;
+        molecule = at_bonds (λ atoms bonds. m ≡ meaning_under atoms (map bond_of bonds) h.under.placed) text skeleton s h.under.molecule;
+      };
     }
 
--- No atom of a text in which no kind stands needs a double bond.
-none_needs : (text : List ℕ) → ((kind : Kind) (place : ℕ) → StandsAt text kind place → ⊥) → (k : ℕ) → needs (atoms_in text) (bonds_in text) k ≡ false
-none_needs text accepted k = false_from_ne_true (needs (atoms_in text) (bonds_in text) k) (λ needing. accepted NotBuilt 1 (inr (
-  refl,
-  record {
-    unbroken = λ kind place h. accepted kind place (breaks_stands text kind place h);
-    right = λ kind place h. accepted kind place (wrong_stands text kind place h);
-    atom = k;
-    needing = needing;
-  },
-)))
+-- a text in which no kind stands is refused for want of memory alone
+pub none_refused : (text : List ℕ) (stop : Stop) → IsRefused text stop → NoneStands text → stop ≡ NoMemory
+none_refused text (Refused r) shown none = absurd (none r.kind r.place shown.stands)
+none_refused text NoMemory shown none = refl
 
--- A text stands for one molecule.
-pub one_molecule : (text : List ℕ) (m n : Molecule) → SmilesStands text m → SmilesStands text n → m ≡ n
-one_molecule text m n is also =
-    let none = none_needs text is.accepted in
-    only_meaning text m none is.molecule ∙ sym (only_meaning text n none also.molecule)
+-- a skeleton that is read of the front of a line
+pub skeleton_of_line : (front text : List ℕ) (skeleton : TextGraph) → front ≡ text → IsSkeleton front skeleton → IsSkeleton text skeleton
+skeleton_of_line front text skeleton same s = subst (λ (x : List ℕ). IsSkeleton x skeleton) same s
+
+pub broken_line : (front text : List ℕ) (stop : Stop) → front ≡ text → IsBroken front stop → IsBroken text stop
+broken_line front text stop same h = subst (λ (x : List ℕ). IsBroken x stop) same h
+
+-- a text without a placement has a skeleton
+pub not_broken : (text : List ℕ) (refusal broken : Refusal) → ((kind : Kind) (place : ℕ) → number kind < number refusal.kind → StandsAt text kind place → ⊥) → refusal.kind ≡ NoPlacement
+    → IsBroken text (Refused broken) → ⊥
+not_broken text refusal broken first kind h =
+    let few = few_break text broken.kind broken.place h.stands in
+    let at = ap number kind in
+    first broken.kind broken.place (omega arith) (breaks_stands text broken.kind broken.place h.stands)

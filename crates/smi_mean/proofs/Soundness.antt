@@ -10,7 +10,7 @@ use Rattle.mc_mol.specs.declared.parts.Bond.{Bond}
 use Rattle.mc_mol.specs.Molecule.{Molecule, bond_sum}
 use Rattle.mc_mol.specs.Parts.{independent_rings}
 use Rattle.mc_mol.specs.declared.limits.TheConstants.{RING_LIMIT, ISOTOPE_LIMIT, CLASS_LIMIT, CHARGE_LIMIT}
-use Rattle.mc_mol.specs.Limits.{IsAtomWithinLimits}
+use Rattle.mc_mol.specs.Limits.{IsAtomWithinLimits, overvalent_at, hydrogen_on_hydrogen_at}
 use Rattle.smi_lex.specs.Reading.{IsReading}
 use Rattle.smi_lex.specs.Tokens.{tokens, unread}
 use Rattle.smi_graph.specs.declared.skel_atom.SkelAtom.{SkelAtom}
@@ -18,21 +18,14 @@ use Rattle.smi_graph.specs.Rules.{atoms_in, bonds_in, fails, has_high_isotope, h
 use Rattle.smi_graph.specs.declared.text_bond.TextBond.{TextBond}
 use Rattle.smi_graph.specs.Links.{bond_of}
 use Rattle.smi_graph.specs.Skeletons.{TextGraph, IsSkeleton}
-use Rattle.smi_mean.specs.Meaning.{bare_hydrogens, hydrogens_of, meant_atom, atoms_with, meaning_of}
+use Rattle.smi_mean.specs.Meaning.{bare_hydrogens, hydrogens_of, meant_atom, atoms_with}
 use Rattle.smi_mean.specs.Meant.{IsMeantBy}
+use Rattle.smi_mean.specs.Placements.{meaning_under}
 use Rattle.smi_mean.specs.Sound.{IsSound}
+use Rattle.smi_mean.proofs.MeantAtoms.{meant_at, length_atoms}
+use Rattle.smi_mean.proofs.Needing.{overvalent_same}
+use Rattle.smi_mean.proofs.Raised.{overvalent_under, rings_raised}
 use Rattle.smi_mean.proofs.LowHydrogens.{implied_low, lower_low, atoms_low}
-
-pub meant_at : (bonds : List Bond) (j : ℕ) (all : List SkelAtom) (k : ℕ) → slice_get (atoms_with bonds j all) k ≡ option_map (λ a. meant_atom a (bond_sum bonds (j + k))) (slice_get all k)
-meant_at bonds j [] k = refl
-meant_at bonds j (a ∷ all) zero = let e : j ≡ j + 0 = omega arith in ap (λ (n : ℕ). Some (meant_atom a (bond_sum bonds n))) e
-meant_at bonds j (a ∷ all) (suc k) =
-    let e : j + 1 + k ≡ j + suc k = omega arith in
-    meant_at bonds (j + 1) all k ∙ ap (λ (n : ℕ). option_map (λ x. meant_atom x (bond_sum bonds n)) (slice_get all k)) e
-
-pub length_atoms : (bonds : List Bond) (j : ℕ) (all : List SkelAtom) → length (atoms_with bonds j all) ≡ length all
-length_atoms bonds j [] = refl
-length_atoms bonds j (a ∷ all) = let e = length_atoms bonds (j + 1) all in omega arith
 
 was : {A B : Type 0} (f : A → B) (o : Option A) (b : B) → option_map f o ≡ Some b → (a : A) × (o ≡ Some a) × (f a ≡ b)
 was f None b h = cc
@@ -60,17 +53,21 @@ few_hydrogens a sum few = by_test a.bare
 
 pub sound_of : (text : List ℕ) (skeleton : TextGraph) (m : Molecule) → IsReading text 0 (tokens text) (length text - length (unread text)) → IsSkeleton text skeleton → IsMeantBy skeleton m → IsSound m
 sound_of text skeleton m reading s h =
-    let is : m ≡ meaning_of (atoms_in text) (bonds_in text) =
-    h.molecule ∙ (ap (λ (x : List SkelAtom). meaning_of x (map bond_of skeleton.bonds)) s.atoms ∙ ap (λ (x : List TextBond). meaning_of (atoms_in text) (map bond_of x)) s.bonds) in
+    let placed : List Bool = h.under.placed in
+    let is : m ≡ meaning_under (atoms_in text) (bonds_in text) placed =
+    h.under.molecule ∙ (ap (λ (x : List SkelAtom). meaning_under x (map bond_of skeleton.bonds) placed) s.atoms ∙ ap (λ (x : List TextBond). meaning_under (atoms_in text) (map bond_of x) placed) s.bonds) in
     let rings : independent_rings (bonds_in text) (length (atoms_in text)) ≤ RING_LIMIT = below (independent_rings (bonds_in text) (length (atoms_in text))) RING_LIMIT (λ place w. s.accepted LimitRings place w) in
     let len : length (atoms_with (bonds_in text) 0 (atoms_in text)) ≡ length (atoms_in text) = length_atoms (bonds_in text) 0 (atoms_in text) in
     record {
       within = record {
         atoms = λ k atom at. by_atom k atom (was (λ a. meant_atom a (bond_sum (bonds_in text) (0 + k))) (slice_get (atoms_in text) k) atom
             (sym (meant_at (bonds_in text) 0 (atoms_in text) k) ∙ (sym (ap (λ (x : Molecule). slice_get x.atoms k) is) ∙ at)));
-        rings = subst (λ (x : Molecule). independent_rings x.bonds (length x.atoms) ≤ RING_LIMIT) (sym is) (subst (λ (n : ℕ). independent_rings (bonds_in text) n ≤ RING_LIMIT) (sym len) rings);
-        valences = h.valences;
-        hydrogens = h.hydrogens;
+        rings = subst (λ (x : Molecule). independent_rings x.bonds (length x.atoms) ≤ RING_LIMIT) (sym is)
+            (subst (λ (n : ℕ). n ≤ RING_LIMIT) (sym (rings_raised placed (bonds_in text) (length (atoms_with (bonds_in text) 0 (atoms_in text)))))
+            (subst (λ (n : ℕ). independent_rings (bonds_in text) n ≤ RING_LIMIT) (sym len) rings));
+        valences = λ k. ap (λ (x : Molecule). overvalent_at x k) h.under.molecule ∙ overvalent_under skeleton.atoms skeleton.bonds placed h.under.placement k
+            ∙ overvalent_same skeleton.atoms (map bond_of skeleton.bonds) k ∙ h.right.valences k;
+        hydrogens = λ k. ap (λ (x : Molecule). hydrogen_on_hydrogen_at x k) h.under.molecule ∙ h.right.hydrogens k;
       };
       no_centres = rw is refl;
       no_sides = rw is refl;

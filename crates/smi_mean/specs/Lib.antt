@@ -1,10 +1,16 @@
 pub mod Meaning
 pub mod Needs
 pub mod Placements
+pub mod Lying
+pub mod Barriers
 pub mod Rules
 pub mod Meant
 pub mod Sound
 pub mod Lines
 pub mod Order
 pub mod RingNumbers
+pub mod NeedGraphs
+pub mod BarrierTests
 pub mod Written
+pub mod CentrePlaces
+pub mod WrittenPlaces

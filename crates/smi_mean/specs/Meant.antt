@@ -1,35 +1,67 @@
 -- What a skeleton stands for, as its reader answers it.
-use Rattle.std.specs.Prelude.{map, ◌≡◌, ◌⊎◌, ℕ, true, false}
-use Rattle.mc_base.specs.declared.kind.Kind.TheVariants.{NotBuilt}
+use Rattle.std.specs.Prelude.{map, ◌≡◌, ◌⊎◌, ℕ, Bool, true, false, List}
+use Rattle.mc_base.specs.declared.ids.AtomId.{AtomId}
+use Rattle.mc_base.specs.declared.kind.Kind.TheVariants.{NoPlacement as NoPlacementKind}
 use Rattle.mc_base.specs.declared.refusal.Refusal.{Refusal}
 use Rattle.mc_base.specs.declared.refusal.Stop.{Stop}
 use Rattle.mc_base.specs.declared.refusal.Stop.TheVariants.{Refused, NoMemory}
 use Rattle.mc_base.specs.Shown.{IsFirst}
+use Rattle.mc_mol.specs.declared.parts.Bond.{Bond}
 use Rattle.mc_mol.specs.Molecule.{Molecule}
 use Rattle.mc_mol.specs.Limits.{overvalent_at, hydrogen_on_hydrogen_at}
+use Rattle.smi_graph.specs.declared.skel_atom.SkelAtom.{SkelAtom}
 use Rattle.smi_graph.specs.Links.{bond_of}
 use Rattle.smi_graph.specs.Skeletons.{TextGraph, IsNoBarrier}
-use Rattle.smi_graph.specs.Faults.{refusal_at}
+use Rattle.smi_mean.specs.declared.place.Placing.{Placing}
+use Rattle.smi_mean.specs.declared.place.Placing.TheVariants.{Placed, Barred}
 use Rattle.smi_mean.specs.Meaning.{meaning_of}
-use Rattle.smi_mean.specs.Needs.{needs}
+use Rattle.smi_mean.specs.Placements.{IsPlacement, HasNoPlacement, meaning_under}
+use Rattle.smi_mean.specs.Barriers.{IsBarrierIn}
 use Rattle.smi_mean.specs.Rules.{IsWrongAtom}
 
--- the molecule of a skeleton, in which no kind stands and no atom needs a double bond
+-- no kind stands at an atom of a skeleton
+pub record IsRight (atoms : List SkelAtom) (bonds : List Bond) : Type 0 where
+  pub valences : (k : ℕ) → overvalent_at (meaning_of atoms bonds) k ≡ false
+  pub hydrogens : (k : ℕ) → hydrogen_on_hydrogen_at (meaning_of atoms bonds) k ≡ false
+
+-- the molecule of a skeleton under some placement
+pub record IsUnder (skeleton : TextGraph) (m : Molecule) : Type 0 where
+  pub placed : List Bool
+  pub placement : IsPlacement skeleton.atoms skeleton.bonds placed
+  pub molecule : m ≡ meaning_under skeleton.atoms (map bond_of skeleton.bonds) placed
+
+-- the same where no kind stands
 pub record IsMeantBy (skeleton : TextGraph) (m : Molecule) : Type 0 where
-  pub molecule : m ≡ meaning_of skeleton.atoms (map bond_of skeleton.bonds)
-  pub valences : (k : ℕ) → overvalent_at m k ≡ false
-  pub hydrogens : (k : ℕ) → hydrogen_on_hydrogen_at m k ≡ false
-  pub no_need : (k : ℕ) → needs skeleton.atoms (map bond_of skeleton.bonds) k ≡ false
+  pub right : IsRight skeleton.atoms (map bond_of skeleton.bonds)
+  pub under : IsUnder skeleton m
 
--- no kind stands in the molecule of a skeleton, and an atom needs a double bond
+-- a barrier, where there is no placement
+pub record IsBarred (skeleton : TextGraph) (barrier : List AtomId) (odd : ℕ) : Type 0 where
+  pub barrier_is : IsBarrierIn skeleton.atoms skeleton.bonds barrier odd
+  pub none : HasNoPlacement skeleton.atoms skeleton.bonds
+
+-- a placement, or a barrier
+abbrev pub IsPlacing : TextGraph → Placing → Type 0
+IsPlacing skeleton (Placed placed) = IsPlacement skeleton.atoms skeleton.bonds placed.items
+IsPlacing skeleton (Barred barrier odd) = IsBarred skeleton barrier odd
+
+-- the refusal of a skeleton that has no placement
 pub record IsUnplaced (skeleton : TextGraph) (refusal : Refusal) : Type 0 where
-  pub is : refusal ≡ refusal_at NotBuilt 1
-  pub valences : (k : ℕ) → overvalent_at (meaning_of skeleton.atoms (map bond_of skeleton.bonds)) k ≡ false
-  pub hydrogens : (k : ℕ) → hydrogen_on_hydrogen_at (meaning_of skeleton.atoms (map bond_of skeleton.bonds)) k ≡ false
-  pub atom : ℕ
-  pub needing : needs skeleton.atoms (map bond_of skeleton.bonds) atom ≡ true
+  pub kind : refusal.kind ≡ NoPlacementKind
+  pub place : refusal.place ≡ 0
+  pub barred : IsBarred skeleton refusal.barrier refusal.odd
 
--- the first kind that stands in the molecule of a skeleton, or that an atom needs a double bond; want of memory is free
+-- the same where no kind stands at an atom
+pub record IsUnplacedRight (skeleton : TextGraph) (refusal : Refusal) : Type 0 where
+  pub right : IsRight skeleton.atoms (map bond_of skeleton.bonds)
+  pub unplaced : IsUnplaced skeleton refusal
+
+-- the first kind that stands at an atom of a skeleton, or that there is no placement; want of memory is free
 abbrev pub IsFaulty : TextGraph → Stop → Type 0
-IsFaulty skeleton (Refused refusal) = IsFirst (IsWrongAtom (meaning_of skeleton.atoms (map bond_of skeleton.bonds))) IsNoBarrier refusal ⊎ IsUnplaced skeleton refusal
+IsFaulty skeleton (Refused refusal) = IsFirst (IsWrongAtom (meaning_of skeleton.atoms (map bond_of skeleton.bonds))) IsNoBarrier refusal ⊎ IsUnplacedRight skeleton refusal
 IsFaulty skeleton NoMemory = Unit {0}
+
+-- the answer of a placing alone
+abbrev pub CantBePlaced : TextGraph → Stop → Type 0
+CantBePlaced skeleton (Refused refusal) = IsUnplaced skeleton refusal
+CantBePlaced skeleton NoMemory = Unit {0}

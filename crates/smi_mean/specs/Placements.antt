@@ -28,6 +28,10 @@ pub record IsPlacement (atoms : List SkelAtom) (bonds : List TextBond) (placed :
   pub candidates : (k : ℕ) (b : TextBond) → slice_get bonds k ≡ Some b → marked placed k ≡ true → IsCandidate atoms bonds b
   pub once : (a : ℕ) → LiesOnce atoms (map bond_of bonds) placed a
 
+-- no placement exists
+abbrev pub HasNoPlacement : List SkelAtom → List TextBond → Type 0
+HasNoPlacement atoms bonds = (placed : List Bool) → IsPlacement atoms bonds placed → ⊥
+
 -- the placed bonds are double, and the others are as they were
 abbrev pub raised_bond : Bool → bond.Bond → bond.Bond
 raised_bond is_placed b = record b { order = if is_placed then 2 else b.order }

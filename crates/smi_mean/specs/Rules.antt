@@ -1,7 +1,7 @@
 -- What a text stands for, and the rules of the kinds for which it is refused.
-use Rattle.std.specs.Prelude.{◌≡◌, ◌⊎◌, ℕ, ◌+◌, Bool, true, List, slice_get, if◌then◌else◌}
+use Rattle.std.specs.Prelude.{◌≡◌, ℕ, ◌+◌, Bool, true, List, slice_get, if◌then◌else◌}
 use Rattle.mc_base.specs.declared.kind.Kind.{Kind}
-use Rattle.mc_base.specs.declared.kind.Kind.TheVariants.{NotBuilt, LimitValence, HydrogenOnHydrogen}
+use Rattle.mc_base.specs.declared.kind.Kind.TheVariants.{LimitValence, HydrogenOnHydrogen, NoPlacement}
 use Rattle.mc_base.specs.declared.refusal.Stop.{Stop}
 use Rattle.mc_base.specs.declared.refusal.Stop.TheVariants.{Refused, NoMemory}
 use Rattle.mc_base.specs.Shown.{IsFirst}
@@ -9,11 +9,11 @@ use Rattle.mc_mol.specs.Limits.{is_over, overvalent_at, hydrogen_on_hydrogen_at}
 use Rattle.mc_mol.specs.Molecule.{Molecule, bond_sum}
 use Rattle.mc_mol.specs.declared.parts.Bond.{Bond}
 use Rattle.smi_graph.specs.declared.skel_atom.SkelAtom.{SkelAtom}
-use Rattle.smi_graph.specs.Rules.{BreaksAt, atoms_in, bonds_in}
-use Rattle.smi_graph.specs.Skeletons.{IsNoBarrier}
+use Rattle.smi_graph.specs.Rules.{BreaksAt, atoms_in, bonds_in, text_bonds_in}
+use Rattle.smi_mean.specs.Barriers.{IsTextBarrier}
 use Rattle.smi_mean.specs.Meaning.{atoms_with, meaning_of}
 use Rattle.smi_mean.specs.Needs.{needs}
-use Rattle.smi_mean.specs.Placements.{IsMoleculeOf}
+use Rattle.smi_mean.specs.Placements.{HasNoPlacement, IsMoleculeOf}
 
 -- some atom of a molecule is wrong by a test; atoms count from 1
 abbrev pub AtomOf : Molecule → (Molecule → ℕ → Bool) → ℕ → Type 0
@@ -35,26 +35,25 @@ IsWrongIn atoms bonds LimitValence place = (k : ℕ) × (place ≡ k + 1) × (ov
 IsWrongIn atoms bonds HydrogenOnHydrogen place = AtomOf (meaning_of atoms bonds) hydrogen_on_hydrogen_at place
 IsWrongIn atoms bonds _ place = ⊥
 
--- What isn't built today: no other kind stands in the text, and an atom of it needs a double bond.
-pub record IsToPlace (text : List ℕ) : Type 0 where
-  pub unbroken : (kind : Kind) (place : ℕ) → BreaksAt text kind place → ⊥
-  pub right : (kind : Kind) (place : ℕ) → IsWrongIn (atoms_in text) (bonds_in text) kind place → ⊥
-  pub atom : ℕ
-  pub needing : needs (atoms_in text) (bonds_in text) atom ≡ true
-
--- A kind stands at a place of a text: the rules of its tokens, and those of its atoms.
+-- A kind stands at a place of a text: the rules of its tokens, those of its atoms, and that its atoms have no placement of
+-- double bonds.
 abbrev pub StandsAt : List ℕ → Kind → ℕ → Type 0
-StandsAt text NotBuilt place = BreaksAt text NotBuilt place ⊎ ((place ≡ 1) × IsToPlace text)
+StandsAt text NoPlacement place = (place ≡ 0) × HasNoPlacement (atoms_in text) (text_bonds_in text)
 StandsAt text LimitValence place = IsWrongIn (atoms_in text) (bonds_in text) LimitValence place
 StandsAt text HydrogenOnHydrogen place = IsWrongIn (atoms_in text) (bonds_in text) HydrogenOnHydrogen place
 StandsAt text kind place = BreaksAt text kind place
 
+-- no kind stands in a text
+abbrev pub NoneStands : List ℕ → Type 0
+NoneStands text = (kind : Kind) (place : ℕ) → StandsAt text kind place → ⊥
+
 -- a text stands for a molecule: no kind stands in it, and for some placement the molecule is that of its skeleton
 pub record SmilesStands (text : List ℕ) (m : Molecule) : Type 0 where
-  pub accepted : (kind : Kind) (place : ℕ) → StandsAt text kind place → ⊥
+  pub accepted : NoneStands text
   pub molecule : IsMoleculeOf text m
 
--- the first kind that stands in a text is the one that is answered; want of memory is free
+-- The first kind that stands in a text is the one that is answered, and beside NoPlacement any barrier; want of memory is
+-- free.
 abbrev pub IsRefused : List ℕ → Stop → Type 0
-IsRefused text (Refused refusal) = IsFirst (StandsAt text) IsNoBarrier refusal
+IsRefused text (Refused refusal) = IsFirst (StandsAt text) (IsTextBarrier text) refusal
 IsRefused text NoMemory = Unit {0}

@@ -1,8 +1,9 @@
 //! Which atoms need a double bond.
 
-ghost use Rattle.std.specs.Prelude.{◌≡◌, ℕ, ◌≤◌, ◌<◌, ◌-◌, ◌^◌, true, false, length, get_or, map, if◌then◌else◌};
+ghost use Rattle.std.specs.Prelude.{◌≡◌, ℕ, ◌≤◌, ◌<◌, ◌-◌, ◌^◌, true, false, length, get_or, map, IfOk, if◌then◌else◌};
 ghost use Rattle.mc_mol.specs.Molecule.{bond_sum, touches};
 ghost use Rattle.smi_graph.specs.Links.{bond_of, order_of, symbol};
+ghost use Rattle.smi_mean.specs.Barriers.{needs_from};
 ghost use Rattle.smi_mean.specs.Needs.{has_valence, is_one_short, needs_double, needs};
 
 use crate::atoms::hydrogens_of;
@@ -10,6 +11,7 @@ use mc_base::AtomId;
 use mc_elements::aromatic_valences;
 use mc_mol::Bond;
 use smi_graph::{SkelAtom, Skeleton, TextBond};
+use std::alloc::{AllocError, Global};
 
 fn has_valence(valences: &[u8], x: u32) -> bool
     ensures { result ≡ has_valence valences.now x }
@@ -52,6 +54,25 @@ pub fn some_needs(atoms: &[SkelAtom], bonds: &[Bond], sums: &[u32]) -> bool
         }
     }
     false
+}
+
+/// Of each atom whether it needs a double bond.
+pub fn needs_in_order(
+    alloc: Global,
+    atoms: &[SkelAtom],
+    bonds: &[Bond],
+    sums: &[u32],
+) -> Result<Vec<bool>, AllocError>
+    requires count { length sums.now ≡ length atoms.now }
+    requires small { (k : ℕ) → get_or sums.now k 0 ≤ 65535 }
+    requires sums { (k : ℕ) → k < length atoms.now → get_or sums.now k 0 ≡ bond_sum bonds.now k }
+    ensures { IfOk result (λ needs. needs.items ≡ needs_from bonds.now 0 atoms.now) }
+{
+    let mut found = Vec::with_capacity(alloc, atoms.len())?;
+    for (k, atom) in atoms.iter().enumerate() {
+        found.push_reserved(needs_double(*atom, sums[k]));
+    }
+    Ok(found)
 }
 
 /// What a bond adds to the bond sum of an atom.

@@ -1,14 +1,19 @@
 //! The molecule of a skeleton under a placement of double bonds.
 
-ghost use Rattle.std.specs.Prelude.{◌≡◌, IfOk, IfErr, length, map};
-ghost use Rattle.mc_base.specs.declared.refusal.Stop.TheVariants.{NoMemory};
+ghost use Rattle.std.specs.Prelude.{◌≡◌, ℕ, ◌≤◌, ◌<◌, IfOk, IfErr, length, get_or, map};
+ghost use Rattle.mc_base.specs.declared.refusal.Stop.TheVariants.{NoMemory as Memory};
+ghost use Rattle.mc_mol.specs.Molecule.{bond_sum};
 ghost use Rattle.smi_graph.specs.Links.{bond_of};
+ghost use Rattle.smi_mean.specs.Meaning.{atoms_with as atoms_meant};
+ghost use Rattle.smi_mean.specs.Meant.{IsUnder, CantBePlaced};
 ghost use Rattle.smi_mean.specs.Placements.{IsPlacement, raised_bond, raised, meaning_under};
 
 use crate::atoms::atoms_with;
 use crate::molecule::molecule;
-use mc_base::Stop;
-use mc_mol::{Bond, Mol, bond_sums};
+use crate::need::needs_in_order;
+use crate::place::{Placing, place};
+use mc_base::{AtomList, Kind, NoMemory, Refusal, Stop};
+use mc_mol::{Atom, Bond, Mol, bond_sums};
 use smi_graph::{Skeleton, bonds_with_orders};
 use std::alloc::{AllocError, Global};
 
@@ -34,16 +39,82 @@ fn raised(alloc: Global, placed: &[bool], bonds: &[Bond]) -> Result<Vec<Bond>, A
     Ok(found)
 }
 
-/// The molecule of a skeleton under a placement, which says of each bond whether it is double.
-pub fn mean_of(alloc: Global, skeleton: &Skeleton, double: &[bool]) -> Result<Mol, Stop>
-    requires { IsPlacement skeleton.now.atoms skeleton.now.bonds double.now }
-    ensures ok { IfOk result (λ mol. mol ≡ meaning_under skeleton.now.atoms (map bond_of skeleton.now.bonds) double.now) }
-    ensures err { IfErr result (λ stop. stop ≡ NoMemory) }
+/// The molecule of these atoms and bonds of a skeleton, of which the marked bonds are double.
+fn molecule_under(
+    alloc: Global,
+    skeleton: &Skeleton,
+    atoms: Vec<Atom>,
+    bonds: &[Bond],
+    placed: &[bool],
+) -> Result<Mol, NoMemory>
+    requires marks { length placed.now ≡ length skeleton.now.bonds }
+    requires atoms { atoms.items ≡ atoms_meant (map bond_of skeleton.now.bonds) 0 skeleton.now.atoms }
+    requires count { length atoms.items ≡ length skeleton.now.atoms }
+    requires bonds { bonds.now ≡ map bond_of skeleton.now.bonds }
+    ensures { IfOk result (λ mol. mol ≡ meaning_under skeleton.now.atoms (map bond_of skeleton.now.bonds) placed.now) }
+{
+    let _limits = skeleton.bonds();
+    let bonds = raised(alloc, placed, bonds)?;
+    molecule(alloc, atoms, bonds)
+}
+
+/// The molecule of a skeleton in which these bonds are double, whether they are a placement or not.
+pub fn molecule_with(alloc: Global, skeleton: &Skeleton, double: &[bool]) -> Result<Mol, NoMemory>
+    requires { length double.now ≡ length skeleton.now.bonds }
+    ensures { IfOk result (λ mol. mol ≡ meaning_under skeleton.now.atoms (map bond_of skeleton.now.bonds) double.now) }
 {
     let bonds = bonds_with_orders(alloc, skeleton.bonds())?;
     let sums = bond_sums(alloc, &bonds, skeleton.atoms().len())?;
     let atoms = atoms_with(alloc, &bonds, &sums, skeleton.atoms())?;
-    let bonds = raised(alloc, double, &bonds)?;
-    let mol = molecule(alloc, atoms, bonds)?;
+    molecule_under(alloc, skeleton, atoms, &bonds, double)
+}
+
+/// The molecule of a skeleton under a placement, which says of each bond whether it is double.
+pub fn mean_of(alloc: Global, skeleton: &Skeleton, double: &[bool]) -> Result<Mol, Stop>
+    requires { IsPlacement skeleton.now.atoms skeleton.now.bonds double.now }
+    ensures ok { IfOk result (λ mol. mol ≡ meaning_under skeleton.now.atoms (map bond_of skeleton.now.bonds) double.now) }
+    ensures err { IfErr result (λ stop. stop ≡ Memory) }
+{
+    let mol = molecule_with(alloc, skeleton, double)?;
     Ok(mol)
+}
+
+/// The refusal of a text whose atoms have no placement.
+fn no_placement(barrier: AtomList, odd: u32) -> Stop
+    ensures { result ≡ Stop.Refused (record { kind = Kind.NoPlacement; place = 0; barrier = barrier; odd = odd }) }
+{
+    Stop::Refused(Refusal {
+        kind: Kind::NoPlacement,
+        place: 0,
+        barrier,
+        odd,
+    })
+}
+
+/// The molecule of these atoms and bonds of a skeleton under some placement, or the refusal where there is none.
+#[tactic(auto, using(crate::proofs::Placing::is_under, crate::proofs::Placing::cant_be_placed))]
+pub fn placed_molecule(
+    alloc: Global,
+    skeleton: &Skeleton,
+    atoms: Vec<Atom>,
+    bonds: &[Bond],
+    sums: &[u32],
+) -> Result<Mol, Stop>
+    requires atoms { atoms.items ≡ atoms_meant (map bond_of skeleton.now.bonds) 0 skeleton.now.atoms }
+    requires count { length atoms.items ≡ length skeleton.now.atoms }
+    requires bonds { bonds.now ≡ map bond_of skeleton.now.bonds }
+    requires sums_count { length sums.now ≡ length skeleton.now.atoms }
+    requires small { (k : ℕ) → get_or sums.now k 0 ≤ 65535 }
+    requires sums { (k : ℕ) → k < length skeleton.now.atoms → get_or sums.now k 0 ≡ bond_sum bonds.now k }
+    ensures ok { IfOk result (IsUnder skeleton.now) }
+    ensures err { IfErr result (CantBePlaced skeleton.now) }
+{
+    let needs = needs_in_order(alloc, skeleton.atoms(), bonds, sums)?;
+    match place(alloc, skeleton, &needs, bonds)? {
+        Placing::Placed(placed) => {
+            let mol = molecule_under(alloc, skeleton, atoms, bonds, &placed)?;
+            Ok(mol)
+        }
+        Placing::Barred(barrier, odd) => Err(no_placement(barrier, odd)),
+    }
 }

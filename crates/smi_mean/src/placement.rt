@@ -1,6 +1,6 @@
 //! Whether marks of bonds are a placement of double bonds.
 
-ghost use Rattle.std.specs.Prelude.{◌≡◌, ℕ, ◌≤◌, ◌<◌, ◌&&◌, true, false, length, map, if◌then◌else◌};
+ghost use Rattle.std.specs.Prelude.{◌≡◌, ◌↔◌, IsTrue, ℕ, ◌≤◌, ◌<◌, ◌&&◌, true, false, length, map, if◌then◌else◌};
 ghost use Rattle.mc_mol.specs.Molecule.{touches};
 ghost use Rattle.smi_graph.specs.Candidates.{marked};
 ghost use Rattle.smi_graph.specs.Links.{bond_of};
@@ -9,16 +9,7 @@ ghost use Rattle.smi_mean.specs.Placements.{placed_at, LiesOnce, IsPlacement};
 
 use crate::needs;
 use mc_base::{AtomId, BondId};
-use smi_graph::{Skeleton, TextBond};
-
-fn is_marked(marks: &[bool], k: u32) -> bool
-    ensures { result ≡ marked marks.now k }
-{
-    match marks.get(k as usize) {
-        Some(mark) => *mark,
-        None => false,
-    }
-}
+use smi_graph::{Skeleton, TextBond, is_marked};
 
 /// Whether none but candidates are marked.
 fn are_candidates(skeleton: &Skeleton, placed: &[bool]) -> bool
@@ -26,7 +17,7 @@ fn are_candidates(skeleton: &Skeleton, placed: &[bool]) -> bool
     ensures no { result ≡ false → (k : ℕ) × (k < length skeleton.now.bonds) × (marked placed.now k ≡ true) × (marked skeleton.now.candidates k ≡ false) }
 {
     for k in 0..skeleton.bond_count() {
-        if is_marked(placed, k) && !skeleton.is_candidate(BondId(k)) {
+        if is_marked(placed, k as usize) && !skeleton.is_candidate(BondId(k)) {
             return false;
         }
     }
@@ -58,6 +49,16 @@ fn placed_at(bonds: &[TextBond], placed: &[bool], a: u32) -> u32
     count
 }
 
+/// Whether an atom lies on one placed bond where it needs a double bond, and else on none.
+fn lies_once(skeleton: &Skeleton, placed: &[bool], a: AtomId) -> bool
+    requires count { length placed.now ≡ length skeleton.now.bonds }
+    requires atom { a.0 < length skeleton.now.atoms }
+    ensures { IsTrue result ↔ LiesOnce skeleton.now.atoms (map bond_of skeleton.now.bonds) placed.now a.0 }
+{
+    let _limits = skeleton.bonds();
+    placed_at(skeleton.bonds(), placed, a.0) == needs(skeleton, a) as u32
+}
+
 /// Whether each atom that needs a double bond lies on one placed bond, and no other atom on any.
 fn lie_once(skeleton: &Skeleton, placed: &[bool]) -> bool
     requires { length placed.now ≡ length skeleton.now.bonds }
@@ -65,7 +66,7 @@ fn lie_once(skeleton: &Skeleton, placed: &[bool]) -> bool
     ensures no { result ≡ false → (a : ℕ) × (LiesOnce skeleton.now.atoms (map bond_of skeleton.now.bonds) placed.now a → ⊥) }
 {
     for a in 0..skeleton.atom_count() {
-        if placed_at(skeleton.bonds(), placed, a) != needs(skeleton, AtomId(a)) as u32 {
+        if !lies_once(skeleton, placed, AtomId(a)) {
             return false;
         }
     }

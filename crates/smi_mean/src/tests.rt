@@ -1,9 +1,12 @@
 ghost use Rattle.std.specs.Prelude.{◌<◌, ◌-◌, ◌^◌, length};
 
-use crate::{is_placement, mean_of, needs, read_smiles};
-use mc_base::{AtomId, BondId, Kind, Stop};
+mod plain;
+
+use crate::{is_barrier_in, is_placement, mean_of, needs, read_smiles};
+use mc_base::{AtomId, BondId, Kind, Refusal, Stop};
 use mc_elements::Element;
-use smi_graph::read_skeleton;
+use mc_mol::Mol;
+use smi_graph::{Skeleton, read_skeleton};
 use std::process::Abort;
 use std::test::Fail;
 
@@ -137,14 +140,85 @@ fn needs_of_atoms(rt: HostRuntime) -> Result<(), Fail> {
     need(&rt, b"CC=C", &[false; 3])
 }
 
+/// The barrier of a text that has no placement, and its number of odd parts.
+fn has_barrier(
+    rt: &(impl Abort + AllocGlobal),
+    line: &[u8],
+    atoms: &[u32],
+    odd: u32,
+) -> Result<(), Fail>
+    requires { length line.now < 2 ^ 32 - 1 }
+{
+    match read_smiles(rt.alloc(), line) {
+        Ok(_read) => assert!(rt; false),
+        Err(Stop::NoMemory) => assert!(rt; false),
+        Err(Stop::Refused(refusal)) => {
+            assert!(rt; refusal.kind == Kind::NoPlacement);
+            assert!(rt; refusal.place == 0);
+            assert!(rt; refusal.odd == odd);
+            assert!(rt; refusal.barrier.len() == atoms.len());
+            for k in 0..atoms.len() {
+                assert!(rt; refusal.barrier.as_slice()[k].0 == atoms[k]);
+            }
+        }
+    }
+    Ok(())
+}
+
 #[test]
-fn needs_that_are_not_placed_yet(rt: HostRuntime) -> Result<(), Fail> {
-    is_refused(&rt, b"c1ccccc1", Kind::NotBuilt, 1)?;
-    is_refused(&rt, b"cc", Kind::NotBuilt, 1)?;
-    // behind every other kind
-    is_refused(&rt, b"c1ccccc1C:C", Kind::AromaticBond, 8)?;
-    is_refused(&rt, b"c1ccccc1.[HH]", Kind::HydrogenOnHydrogen, 7)?;
-    is_refused(&rt, b"c1ccccc1C[CH9](=C)(=C)(C)C", Kind::LimitValence, 8)
+fn texts_without_a_placement(rt: HostRuntime) -> Result<(), Fail> {
+    has_barrier(&rt, b"c1cccc1", &[], 1)?;
+    // four needing atoms, a star
+    has_barrier(&rt, b"c12c3oc1oc2o3", &[0], 3)?;
+    // no candidate, since the bond lies on no closed path of such bonds
+    has_barrier(&rt, b"cc", &[], 2)?;
+    has_barrier(&rt, b"c1=cc=cc=c1", &[], 6)?;
+    has_barrier(&rt, b"[nH2]", &[], 1)?;
+    // behind the other kinds
+    is_refused(&rt, b"c1cccc1C:C", Kind::AromaticBond, 7)?;
+    is_refused(&rt, b"c1cccc1.[HH]", Kind::HydrogenOnHydrogen, 6)?;
+    is_refused(&rt, b"c1cccc1C[CH9](=C)(=C)(C)C", Kind::LimitValence, 7)
+}
+
+/// The molecule that a text is read as is that of a placement.
+fn is_placed(rt: &(impl Abort + AllocGlobal), line: &[u8]) -> Result<(), Fail>
+    requires { length line.now < 2 ^ 32 - 1 }
+{
+    match read_smiles(rt.alloc(), line) {
+        Ok(read) => {
+            let skeleton = &read.skeleton;
+            let mut double = Vec::new(rt.alloc());
+            for k in 0..read.mol.bond_count() {
+                let placed = skeleton.is_candidate(BondId(k))
+                    && read.mol.bond(BondId(k)).order == 2;
+                double.push(placed)?;
+            }
+            assert!(rt; is_placement(skeleton, &double));
+        }
+        Err(_) => assert!(rt; false, "{line:?}"),
+    }
+    Ok(())
+}
+
+#[test]
+fn texts_with_a_placement(rt: HostRuntime) -> Result<(), Fail> {
+    for text in [
+        "c1ccccc1",
+        "c1ccccc1c1ccccc1",
+        "n1ccccc1",
+        "[nH]1cccc1",
+        "c1ccoc1",
+        "[se]1cccc1",
+        "c1ccc2ccccc2c1",
+        "c1cc2cccc3cccc1c23",
+        "c1:c:c:c:c:c:1",
+        "C1=CC=CC=C1c1ccncc1",
+        "[O-][n+]1ccccc1",
+        "c1ccc2c(c1)[nH]c1ccccc12",
+    ] {
+        is_placed(&rt, text.as_bytes())?;
+    }
+    Ok(())
 }
 
 /// The orders of the bonds of a text under these marks, and the hydrogens of each of its atoms; nothing where the marks
@@ -206,4 +280,100 @@ fn molecules_of_placements(rt: HostRuntime) -> Result<(), Fail> {
     // an atom without a need, and a bond that is no candidate
     placed(&rt, b"o1cccc1", &[t, f, t, f, f], &[], 0)?;
     placed(&rt, b"cc", &[t], &[], 2)
+}
+
+/// The molecule's double bonds among the candidates, as a set of bonds.
+fn double_candidates(skeleton: &Skeleton, mol: &Mol) -> u64 {
+    let mut set = 0;
+    for k in 0..mol.bond_count() {
+        if skeleton.is_candidate(BondId(k)) && mol.bond(BondId(k)).order == 2 {
+            set |= plain::bit(k);
+        }
+    }
+    set
+}
+
+/// A refusal has a barrier, by the plain program and by the checker.
+fn is_barred(rt: &(impl Abort + AllocGlobal), skeleton: &Skeleton, refusal: &Refusal) {
+    let mut set = 0;
+    let mut next = 0u64;
+    for atom in refusal.barrier.as_slice() {
+        assert!(rt; next <= atom.0 as u64);
+        next = atom.0 as u64 + 1;
+        set |= plain::bit(atom.0);
+    }
+    assert!(rt; !plain::has_placement(skeleton));
+    assert!(rt; plain::is_barrier(skeleton, set, refusal.odd));
+    let barrier = refusal.barrier.as_slice();
+    match is_barrier_in(rt.alloc(), skeleton, barrier, refusal.odd) {
+        Ok(is) => assert!(rt; is),
+        Err(_) => assert!(rt; false),
+    }
+    match is_barrier_in(rt.alloc(), skeleton, barrier, refusal.odd.wrapping_add(1)) {
+        Ok(is) => assert!(rt; !is),
+        Err(_) => assert!(rt; false),
+    }
+}
+
+/// The reader answers what the plain program says of a text.
+fn agrees(rt: &(impl Abort + AllocGlobal), text: &[u8])
+    requires { length text.now < 2 ^ 32 - 1 }
+{
+    let skeleton = match read_skeleton(rt.alloc(), text) {
+        Ok(skeleton) => skeleton,
+        Err(_) => return,
+    };
+    match read_smiles(rt.alloc(), text) {
+        Ok(read) => {
+            let placed = double_candidates(&skeleton, &read.mol);
+            assert!(rt; plain::is_placement(&skeleton, placed), "{text:?}");
+        }
+        Err(Stop::Refused(refusal)) => {
+            assert!(rt; refusal.kind == Kind::NoPlacement, "{text:?}");
+            is_barred(rt, &skeleton, &refusal);
+        }
+        Err(Stop::NoMemory) => assert!(rt; false),
+    }
+}
+
+const TOKENS: [&[u8]; 10] = [
+    b"c", b"n", b"o", b"C", b"[nH]", b"(", b")", b"1", b"=", b":",
+];
+
+/// The text of some of the tokens, by the digits of a number.
+fn short_text(rt: &(impl Abort + AllocGlobal), length: u32, number: u64) -> Result<Vec<u8>, Fail> {
+    let mut text = Vec::new(rt.alloc());
+    let mut rest = number;
+    for _ in 0..length {
+        text.extend_from_slice(TOKENS[(rest % 10) as usize])?;
+        rest /= 10;
+    }
+    Ok(text)
+}
+
+#[test]
+fn all_short_texts(rt: HostRuntime) -> Result<(), Fail> {
+    let mut texts = 1u64;
+    for length in 0..6 {
+        for number in 0..texts {
+            let text = short_text(&rt, length, number)?;
+            assert!(&rt; text.len() < 100);
+            agrees(&rt, &text);
+        }
+        texts = texts.saturating_mul(10);
+    }
+    Ok(())
+}
+
+/// Texts of six tokens that begin with a ring number at a lower-case atom.
+#[test]
+fn short_rings(rt: HostRuntime) -> Result<(), Fail> {
+    for first in 0..3 {
+        for rest in 0..10000 {
+            let text = short_text(&rt, 6, first + 70 + 100 * rest)?;
+            assert!(&rt; text.len() < 100);
+            agrees(&rt, &text);
+        }
+    }
+    Ok(())
 }
