@@ -18,11 +18,11 @@ use Rattle.smi_mean.specs.RingNumbers.{onto_all}
 use Rattle.mc_mol.specs.Molecule.{Molecule, joins, are_joined, touches, bond_sum}
 use Rattle.mc_mol.specs.WellFormed.{IsMolecule}
 use Rattle.mc_mol.proofs.Twins.{joins_first}
-use Rattle.mc_mol.proofs.Apart.{joins_turned}
+use Rattle.mc_mol.proofs.Apart.{joins_turned, turned_joins}
 use Rattle.smi_mean.specs.Written.{at, bond_symbol}
 use Rattle.smi_write.specs.Structure.{SayOrders}
 use Rattle.smi_write.proofs.Symbols.{HasSymbols}
-use Rattle.smi_write.proofs.Simple.{Simple, simple_of, said_between, joins_each}
+use Rattle.smi_write.proofs.Simple.{Simple, simple_of, said_between}
 use Rattle.smi_write.proofs.Sums.{bonds_sum}
 use Rattle.smi_write.proofs.Ranked.{Inverse, inverse, equal_tests, turn, ranked, rank_of, read_sum}
 use Rattle.smi_write.proofs.Whole.{graph_roles, is_read}
@@ -36,7 +36,7 @@ fits_more : (x : Bond) (all bs : List Bond) → are_joined bs x.first.0 x.second
 fits_more x all [] none f = tt
 fits_more x all (b ∷ bs) none f =
     let r = or_parts (joins b x.first.0 x.second.0) (are_joined bs x.first.0 x.second.0) none in
-    let apart : joins x b.first.0 b.second.0 ≡ false = false_from_ne_true (joins x b.first.0 b.second.0) (λ t. false≢true (sym r.0 ∙ joins_each x b t)) in
+    let apart : joins x b.first.0 b.second.0 ≡ false = false_from_ne_true (joins x b.first.0 b.second.0) (λ t. false≢true (sym r.0 ∙ turned_joins x b t)) in
     let apart' : joins x b.second.0 b.first.0 ≡ false = joins_turned x b.second.0 b.first.0 ∙ apart in
     ((rw apart f.0.0, rw apart' f.0.1), fits_more x all bs r.1 f.1)
 
@@ -67,7 +67,7 @@ read_weights v k (b ∷ bs) o =
     let e : weight v k b.first.0 b.second.0 ≡ (if touches b k then b.order else 0) = ap (λ (x : ℕ). if b.first.0 == k || b.second.0 == k then x else 0) (sym o.0) in
     omega arith
 
-turned_weight : (v : ℕ → ℕ → ℕ) (k x y o q : ℕ) (t : Bool) → v x y ≡ q → v y x ≡ q → (let b : Bond = turn t x y o in weight v k b.first.0 b.second.0) ≡ (if x == k || y == k then q else 0)
+pub turned_weight : (v : ℕ → ℕ → ℕ) (k x y o q : ℕ) (t : Bool) → v x y ≡ q → v y x ≡ q → (let b : Bond = turn t x y o in weight v k b.first.0 b.second.0) ≡ (if x == k || y == k then q else 0)
 turned_weight v k x y o q true e f = ap (λ (z : ℕ). if x == k || y == k then z else 0) e
 turned_weight v k x y o q false e f = ap (λ (z : ℕ). if y == k || x == k then z else 0) f ∙ ap (λ (z : Bool). if z then q else 0) (or_comm (y == k) (x == k))
 

@@ -7,11 +7,9 @@ use Rattle.std.proofs.lemmas.Bool.{cases_eq, cases_lt, and_right, ne_eqb}
 use Rattle.std.proofs.lemmas.Bool.Decides.{nat_tests}
 use Rattle.std.proofs.Math.Bool.{and-true}
 use Rattle.mc_mol.proofs.Halves.{same_test}
+pub use Rattle.smi_graph.proofs.NeighbourCount.{occurs, occurs_append}
+pub use Rattle.smi_graph.proofs.Waiting.{bit}
 use Rattle.smi_mean.specs.RingNumbers.{Pair, new_pair, opened, ending, kept, insert, sorted, passing, partners, onto_all, active, closing}
-
-abbrev pub bit : Bool → ℕ
-bit true = 1
-bit false = 0
 
 -- how many of these have this opener and this partner
 abbrev pub pair_count : ℕ → ℕ → List Pair → ℕ
@@ -21,10 +19,6 @@ pair_count j l (p ∷ ps) = bit (p.opener == j && p.partner == l) + pair_count j
 abbrev pub opener_count : ℕ → List Pair → ℕ
 opener_count j [] = 0
 opener_count j (p ∷ ps) = bit (p.opener == j) + opener_count j ps
-
-abbrev pub occurs : ℕ → List ℕ → ℕ
-occurs l [] = 0
-occurs l (x ∷ xs) = bit (x == l) + occurs l xs
 
 pair_onto : (j l : ℕ) (xs ys : List Pair) → pair_count j l (onto_all xs ys) ≡ pair_count j l xs + pair_count j l ys
 pair_onto j l [] ys = omega arith
@@ -75,10 +69,6 @@ opened_here v k l used (x ∷ ls) = rw (same_test k) (ap (λ (y : ℕ). bit (x =
 opened_other : (v : ℕ → ℕ → Option BondMark) (j k l : ℕ) (used : List Pair) (ls : List ℕ) → k ≢ j → pair_count j l (opened v used k ls) ≡ 0
 opened_other v j k l used [] ne = refl
 opened_other v j k l used (x ∷ ls) ne = rw (ne_eqb k j ne) (let h = opened_other v j k l (new_pair v used k x ∷ used) ls ne in omega arith)
-
-occurs_append : (l : ℕ) (xs ys : List ℕ) → occurs l (xs ++ ys) ≡ occurs l xs + occurs l ys
-occurs_append l [] ys = omega arith
-occurs_append l (x ∷ xs) ys = ap (λ (y : ℕ). bit (x == l) + y) (occurs_append l xs ys) ∙ omega arith
 
 occurs_none : (l : ℕ) (p : ℕ → Bool) (n : ℕ) → n ≤ l → occurs l (passing p n) ≡ 0
 occurs_none l p zero le = refl

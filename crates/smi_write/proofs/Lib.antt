@@ -51,3 +51,13 @@ mod Befores
 mod TextSteps
 mod WholeTrip
 pub mod NoBlanks
+mod NeighboursRead
+mod PartnersRead
+mod SameNumbers
+mod PlacesRead
+mod PlaceRows
+mod Exchange
+mod CentreKept
+mod ClosingOpeners
+mod OthersFound
+mod FourPlaces

@@ -4,7 +4,7 @@ use Rattle.std.specs.Prelude.{slice_get, nat_abs}
 use Rattle.std.proofs.lemmas.Bool.{cases_lt, both_ways, le-ltb}
 use Rattle.std.proofs.lemmas.Option.{slice_get_past, slice_get_within}
 use Rattle.mc_base.specs.declared.kind.Kind.{Kind}
-use Rattle.mc_base.specs.declared.kind.Kind.TheVariants.{NotBuilt, BadToken, Wildcard, OtherChirality, BadOrder, ParenOpen, RingOpen, RingClash, RingPair, AromaticBond, LimitAtoms, LimitBonds, LimitRings, LimitIsotope, LimitClass, LimitCharge, LimitValence, HydrogenOnHydrogen}
+use Rattle.mc_base.specs.declared.kind.Kind.TheVariants.{NotBuilt, BadToken, Wildcard, OtherChirality, BadOrder, ParenOpen, RingOpen, RingClash, RingPair, AromaticBond, LimitAtoms, LimitBonds, LimitRings, LimitIsotope, LimitClass, LimitCharge, LimitValence, HydrogenOnHydrogen, NoPlacement}
 use Rattle.mc_mol.specs.declared.parts.Atom.{Atom}
 use Rattle.mc_mol.specs.declared.parts.Bond as bond
 use Rattle.mc_mol.specs.Molecule.{Molecule, bond_sum}
@@ -20,6 +20,7 @@ use Rattle.smi_graph.specs.Rules.{atoms_in, bonds_in, text_bonds_in, roles_in, f
 use Rattle.smi_graph.proofs.TokenFaults.{unclosed_past, clash_past, pair_past}
 use Rattle.smi_graph.proofs.Plain.{plain_bonds, upper_atoms}
 use Rattle.smi_mean.proofs.Needing.{overvalent_same, upper_needs_none}
+use Rattle.smi_mean.proofs.Placing.{none_placed, nothing_placed}
 use Rattle.smi_mean.specs.Needs.{needs}
 use Rattle.smi_mean.specs.Meaning.{atoms_with, meaning, meant_atom}
 use Rattle.smi_mean.specs.Order.{graph_of}
@@ -96,8 +97,7 @@ nowhere p n i past fails holds = elim (cases_lt i n) [
 ]
 
 pub none_stands : (m : Molecule) (text : List ℕ) → IsMolecule m → IsSound m → IsRead m text → (kind : Kind) (place : ℕ) → StandsAt text kind place → ⊥
-none_stands m text is sound read NotBuilt place (inl h) = both_ways _ h.2 read.built
-none_stands m text is sound read NotBuilt place (inr h) = both_ways _ (no_need text (upper_atoms text read.plain) h.1.atom) h.1.needing
+none_stands m text is sound read NotBuilt place h = both_ways _ h.2 read.built
 none_stands m text is sound read BadToken place h = no_rest m text read h.0
 none_stands m text is sound read Wildcard place h = no_rest m text read h.0
 none_stands m text is sound read OtherChirality place h = no_rest m text read h.0
@@ -118,4 +118,6 @@ none_stands m text is sound read LimitCharge place (k, there, bad) =
     both_ways _ (no_atom_fails m text sound read has_high_charge (λ atom sum limits. le-ltb CHARGE_LIMIT (nat_abs atom.charge) limits.charge) k) bad
 none_stands m text is sound read LimitValence place (k, there, bad) = both_ways _ (overvalent_same (atoms_in text) (bonds_in text) k ∙ no_valence m text sound read k) bad
 none_stands m text is sound read HydrogenOnHydrogen place (k, there, bad) = both_ways _ (no_hydrogen m text sound read k) bad
+none_stands m text is sound read NoPlacement place h =
+    h.1 (none_placed (text_bonds_in text)) (nothing_placed (atoms_in text) (text_bonds_in text) (no_need text (upper_atoms text read.plain)))
 none_stands m text is sound read _ place h = h

@@ -33,7 +33,7 @@ opener_here p ps m e = let t : (p.number == m) ≡ true = ap (λ (x : ℕ). x ==
 pub opener_other : (p : Pair) (ps : List Pair) (m : ℕ) → p.number ≢ m → opener m (p ∷ ps) ≡ opener m ps
 opener_other p ps m ne = rw (ne_eqb p.number m ne) refl
 
-none_other : (p : Pair) (ps : List Pair) (m : ℕ) → opener m (p ∷ ps) ≡ None → (p.number ≢ m) × (opener m ps ≡ None)
+pub none_other : (p : Pair) (ps : List Pair) (m : ℕ) → opener m (p ∷ ps) ≡ None → (p.number ≢ m) × (opener m ps ≡ None)
 none_other p ps m h = elim (cases_eq p.number m) [
   | inl e ↦ let s = opener_here p ps m e in absurd (some_none (sym s ∙ h))
   | inr ne ↦ (ne, sym (opener_other p ps m ne) ∙ h)

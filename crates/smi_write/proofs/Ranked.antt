@@ -3,9 +3,10 @@ use Rattle.std.specs.Prelude.{Option}
 use Rattle.smi_lex.specs.declared.token.BondMark.{BondMark}
 use Rattle.std.proofs.Common.{◌≡◌, ◌≢◌, ℕ, zero, suc, ◌+◌, ◌<◌, List, [], ◌∷◌, length, Bool, true, false, refl, ap, sym, ◌∙◌, inl, inr, arith}
 use Rattle.std.specs.Prelude.{◌==◌, ◌&&◌, ◌||◌, nat_lt}
-use Rattle.std.proofs.lemmas.Bool.{cases_eq, cases_lt, false≢true, ne_eqb, eqb-true, and_parts, or_cases, false_from_ne_true}
+use Rattle.std.proofs.lemmas.Bool.{cases_eq, cases_lt, false≢true, ne_eqb, eqb-true, and_parts, false_from_ne_true}
 use Rattle.std.proofs.lemmas.Bool.Decides.{nat_tests}
 use Rattle.std.proofs.Math.Bool.{or-false}
+use Rattle.smi_graph.proofs.SimpleBonds.{alone}
 use Rattle.smi_mean.specs.Order.{Graph, graph_of, order, rank}
 use Rattle.mc_mol.specs.declared.parts.Bond.{Bond}
 use Rattle.smi_graph.specs.Links.{bond_between, bonds_of}
@@ -13,7 +14,6 @@ use Rattle.smi_mean.specs.RingNumbers.{onto_all}
 use Rattle.smi_write.proofs.Hits.{bit}
 use Rattle.smi_write.proofs.BondCounts.{hit, bond_count}
 use Rattle.mc_mol.specs.Molecule.{Molecule, joins, are_joined}
-use Rattle.mc_mol.proofs.Apart.{are_joined_turned}
 use Rattle.mc_mol.proofs.Halves.{same_test}
 use Rattle.smi_write.proofs.Simple.{Simple}
 use Rattle.smi_mean.specs.Written.{at}
@@ -68,15 +68,6 @@ pub hit_is : (n : ℕ) (at_ pl : ℕ → ℕ) (b : Bond) (j l : ℕ) → Inverse
 hit_is n at_ pl b j l i a c ne less below =
     turned_hit (pl b.first.0) (pl b.second.0) b.order j l (λ e. ne (sym (i.forth b.first.0 a) ∙ ap at_ e ∙ i.forth b.second.0 c)) less
     ∙ sym (rw (equal_tests n at_ pl b.first.0 j i a (omega arith), equal_tests n at_ pl b.second.0 l i c below, equal_tests n at_ pl b.first.0 l i a below, equal_tests n at_ pl b.second.0 j i c (omega arith)) refl)
-
--- a pair that a bond joins is joined by no other
-alone : (b : Bond) (bs : List Bond) (u v : ℕ) → are_joined bs b.first.0 b.second.0 ≡ false → joins b u v ≡ true → are_joined bs u v ≡ false
-alone b bs u v none t = elim (or_cases (b.first.0 == u && b.second.0 == v) (b.first.0 == v && b.second.0 == u) t) [
-  | inl h ↦ let r = and_parts (b.first.0 == u) (b.second.0 == v) h in
-      ap (λ (x : ℕ). are_joined bs x v) (sym (eqb-true b.first.0 u r.0)) ∙ ap (are_joined bs b.first.0) (sym (eqb-true b.second.0 v r.1)) ∙ none
-  | inr h ↦ let r = and_parts (b.first.0 == v) (b.second.0 == u) h in
-      are_joined_turned bs u v ∙ ap (λ (x : ℕ). are_joined bs x u) (sym (eqb-true b.first.0 v r.0)) ∙ ap (are_joined bs b.first.0) (sym (eqb-true b.second.0 u r.1)) ∙ none
-]
 
 bit_or : (a b : Bool) → (a ≡ true → b ≡ false) → bit a + bit b ≡ bit (a || b)
 bit_or true true h = absurd (false≢true (sym (h refl)))

@@ -50,14 +50,14 @@ pub closed_count : (ps : List Pair) (before : List Role) → atom_count (onto_al
 closed_count [] before = refl
 closed_count (p ∷ ps) before = closed_count ps (Ring p.number ∷ before)
 
-closed_mark : (ps : List Pair) (before : List Role) → mark_of before ≡ None → mark_of (onto_all (closed_roles ps) before) ≡ None
+pub closed_mark : (ps : List Pair) (before : List Role) → mark_of before ≡ None → mark_of (onto_all (closed_roles ps) before) ≡ None
 closed_mark [] before bare = bare
 closed_mark (p ∷ ps) before bare = closed_mark ps (Ring p.number ∷ before) refl
 
 none_some : (a : Opening) (o : Option Opening) → o ≡ None → o ≡ Some a → ⊥
 none_some a o h k = cc
 
-known_next : (p : Pair) (cs : List Pair) (before : List Role) → Distinct (p ∷ cs) → Known before (p ∷ cs) → Known (Ring p.number ∷ before) cs
+pub known_next : (p : Pair) (cs : List Pair) (before : List Role) → Distinct (p ∷ cs) → Known before (p ∷ cs) → Known (Ring p.number ∷ before) cs
 known_next p cs before d known m a is = elim (cases_eq p.number m) [
   | inl e ↦ absurd (none_some a (opener m cs) (subst (λ (x : ℕ). opener x cs ≡ None) e d.0) is)
   | inr ne ↦ open_other p.number m before ne ∙ known m a (opener_other p cs m ne ∙ is)
@@ -101,10 +101,10 @@ close_bonds (p ∷ cs) before k counted bare d known =
 abbrev pub Covers : List Pair → List Pair → Type 0
 Covers used act = (m : ℕ) → opener m used ≡ None → opener m act ≡ None
 
-opens_next : (used act : List Pair) (before : List Role) → Agrees before act → Covers used act → open_ring (free_number used) before ≡ None
+pub opens_next : (used act : List Pair) (before : List Role) → Agrees before act → Covers used act → open_ring (free_number used) before ≡ None
 opens_next used act before agrees covers = let free = free_is used in agrees (free_number used) ∙ covers (free_number used) free.free
 
-agrees_next : (p : Pair) (act : List Pair) (before : List Role) → atom_count before ≡ suc p.opener → mark_of before ≡ p.symbol → Agrees before act → open_ring p.number before ≡ None
+pub agrees_next : (p : Pair) (act : List Pair) (before : List Role) → atom_count before ≡ suc p.opener → mark_of before ≡ p.symbol → Agrees before act → open_ring p.number before ≡ None
     → Agrees (Ring p.number ∷ before) (p ∷ act)
 agrees_next p act before counted mark agrees none m = elim (cases_eq p.number m) [
   | inl e ↦
@@ -118,7 +118,7 @@ agrees_next p act before counted mark agrees none m = elim (cases_eq p.number m)
   | inr ne ↦ open_other p.number m before ne ∙ agrees m ∙ sym (opener_other p act m ne)
 ]
 
-covers_next : (p : Pair) (used act : List Pair) → Covers used act → Covers (p ∷ used) (p ∷ act)
+pub covers_next : (p : Pair) (used act : List Pair) → Covers used act → Covers (p ∷ used) (p ∷ act)
 covers_next p used act covers m h = elim (cases_eq p.number m) [
   | inl e ↦ absurd (none_some (as_opening p) (opener m (p ∷ used)) h (opener_here p used m e))
   | inr ne ↦ opener_other p act m ne ∙ covers m (sym (opener_other p used m ne) ∙ h)
@@ -166,16 +166,16 @@ pub active_distinct : (v : ℕ → ℕ → Option BondMark) (r : ℕ → ℕ →
 active_distinct v r n zero = tt
 active_distinct v r n (suc k) = open_distinct v (partners r n k) (active v r n k) (kept k (active v r n k)) k (distinct_kept k (active v r n k) (active_distinct v r n k)) (covers_kept k (active v r n k))
 
-known_closing : (v : ℕ → ℕ → Option BondMark) (r : ℕ → ℕ → Bool) (n k : ℕ) (before : List Role) → Agrees before (active v r n k) → Known before (closing v r n k)
+pub known_closing : (v : ℕ → ℕ → Option BondMark) (r : ℕ → ℕ → Bool) (n k : ℕ) (before : List Role) → Agrees before (active v r n k) → Known before (closing v r n k)
 known_closing v r n k before agrees m a is =
     let ps : List Pair = active v r n k in
     agrees m ∙ ending_opener k m a ps (active_distinct v r n k) (sym (sorted_opener (ending k ps) m (distinct_ending k ps (active_distinct v r n k))) ∙ is)
 
-closing_distinct : (v : ℕ → ℕ → Option BondMark) (r : ℕ → ℕ → Bool) (n k : ℕ) → Distinct (closing v r n k)
+pub closing_distinct : (v : ℕ → ℕ → Option BondMark) (r : ℕ → ℕ → Bool) (n k : ℕ) → Distinct (closing v r n k)
 closing_distinct v r n k = sorted_distinct (ending k (active v r n k)) (distinct_ending k (active v r n k) (active_distinct v r n k))
 
 -- behind the closing numbers
-agrees_closed : (v : ℕ → ℕ → Option BondMark) (r : ℕ → ℕ → Bool) (n k : ℕ) (before : List Role) → Agrees before (active v r n k) → Agrees (onto_all (closed_roles (closing v r n k)) before) (kept k (active v r n k))
+pub agrees_closed : (v : ℕ → ℕ → Option BondMark) (r : ℕ → ℕ → Bool) (n k : ℕ) (before : List Role) → Agrees before (active v r n k) → Agrees (onto_all (closed_roles (closing v r n k)) before) (kept k (active v r n k))
 agrees_closed v r n k before agrees m =
     let ps : List Pair = active v r n k in
     close_all (closing v r n k) before (closing_distinct v r n k) (known_closing v r n k before agrees) m

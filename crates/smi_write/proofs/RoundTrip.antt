@@ -22,7 +22,7 @@ use Rattle.smi_write.proofs.Structured.{IsRead, Structured, is_read, length_with
 use Rattle.smi_write.proofs.NoneStands.{no_need, none_stands}
 
 -- entry k of the written order is the atom at rank k
-entry_is : (us : List ℕ) (k : ℕ) → entry (map (λ u. record { 0 = u }) us) k ≡ get_or us k 0
+pub entry_is : (us : List ℕ) (k : ℕ) → entry (map (λ u. record { 0 = u }) us) k ≡ get_or us k 0
 entry_is [] k = refl
 entry_is (u ∷ us) zero = refl
 entry_is (u ∷ us) (suc k) = entry_is us k

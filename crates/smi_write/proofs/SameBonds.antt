@@ -44,7 +44,7 @@ found (b ∷ bs) u v h = by_test (joins b u v) refl h (λ t. found bs u v t)
     by_test true e h more = (b, (0, omega arith, refl), e, refl)
     by_test false e h more = let (c, there, joined, order) = more h in let (k, below, is) = there in (c, (suc k, omega arith, is), joined, order)
 
-bit_one : (b : Bool) → 0 < bit b → b ≡ true
+pub bit_one : (b : Bool) → 0 < bit b → b ≡ true
 bit_one true h = refl
 bit_one false h = absurd (omega arith)
 

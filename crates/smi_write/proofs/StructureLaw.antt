@@ -30,7 +30,7 @@ use Rattle.smi_write.proofs.Ranked.{read_length}
 use Rattle.smi_write.proofs.BondSums.{read_bond_sum}
 use Rattle.smi_write.proofs.SameBonds.{same_bonds, same_symbols, read_joined}
 
-onto_reverse : (xs acc : List Role) → onto_all xs acc ≡ reverse_aux xs acc
+pub onto_reverse : (xs acc : List Role) → onto_all xs acc ≡ reverse_aux xs acc
 onto_reverse [] acc = refl
 onto_reverse (x ∷ xs) acc = onto_reverse xs (x ∷ acc)
 

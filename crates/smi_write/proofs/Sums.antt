@@ -4,7 +4,7 @@ use Rattle.std.specs.Prelude.{◌==◌, ◌⊎◌, ◌&&◌, if◌then◌else◌
 use Rattle.std.proofs.lemmas.Bool.{cases_eq, cases_lt, ne_eqb}
 use Rattle.mc_mol.specs.declared.parts.Bond.{Bond}
 use Rattle.mc_mol.proofs.Halves.{same_test}
-use Rattle.smi_write.proofs.Hits.{bit}
+pub use Rattle.smi_graph.proofs.NeighbourCount.{times, times_bit}
 use Rattle.smi_write.proofs.BondCounts.{hit, bond_count}
 
 -- the sum of w over the bonds
@@ -62,14 +62,6 @@ grid_one f a b (suc n) less below e = elim (cases_eq n b) [
       let s : f a n ≡ f a b = ap (f a) same in omega arith
   | inr ne ↦ let r = grid_one f a b n less (omega arith) e in let z = row_zero f n n (λ j lt. e j n (inr ne)) in omega arith
 ]
-
-abbrev pub times : ℕ → ℕ → ℕ
-times zero x = 0
-times (suc c) x = x + times c x
-
-times_bit : (b : Bool) (c x : ℕ) → times (bit b + c) x ≡ (if b then x else 0) + times c x
-times_bit true c x = let e : 1 + c ≡ suc c = omega arith in ap (λ (k : ℕ). times k x) e
-times_bit false c x = let e : 0 + c ≡ c = omega arith in ap (λ (k : ℕ). times k x) e ∙ omega arith
 
 -- the ends are different atoms below n, the first below the second
 abbrev pub InRange : ℕ → List Bond → Type 0

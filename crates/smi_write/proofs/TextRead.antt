@@ -222,7 +222,7 @@ ring_numbers v r n j open_ bs before read last free =
       free = k.free;
     }
 
-whole_atom : (v : ℕ → ℕ → Option BondMark) (r : ℕ → ℕ → Bool) (n p k : ℕ) (open_ : List ℕ) (bs : List TextBond) (before : List Role)
+pub whole_atom : (v : ℕ → ℕ → Option BondMark) (r : ℕ → ℕ → Bool) (n p k : ℕ) (open_ : List ℕ) (bs : List TextBond) (before : List Role)
     → Read k open_ (active v r n k) bs before → option_to_list (chain_bond (predecessor before) k (mark_of before)) ≡ parent_bond v p k → MayAtom before
     → Behind v r n k open_ ((bs ++ parent_bond v p k) ++ links k (closing v r n k)) (onto_all (ring_roles v r n k) (Atom false ∷ before))
 whole_atom v r n p k open_ bs before read pred follows =
@@ -328,7 +328,7 @@ open_branch v r n p j qs bs before false is le gap at =
     record { read = read_pending (suc j) _ _ (active v r n (suc j)) bs before cut at.read; last = at.last; follows = at.follows; marks = at.marks; bare = at.bare }
 
 -- what stands before an atom
-ready : (v : ℕ → ℕ → Option BondMark) (r : ℕ → ℕ → Bool) (n p j : ℕ) (qs : List ℕ) (bs : List TextBond) (before : List Role)
+pub ready : (v : ℕ → ℕ → Option BondMark) (r : ℕ → ℕ → Bool) (n p j : ℕ) (qs : List ℕ) (bs : List TextBond) (before : List Role)
     → p ≤ suc j → Gap p (suc j) qs → Behind v r n j (pending j (p ∷ qs)) bs before
     → Ready v r n p (suc j) (pending (suc j) qs) bs (onto_all (before_roles v (suc j) p qs) before)
 ready v r n zero j qs bs before le gap at = ready_dot v r n j qs bs before gap at
@@ -347,7 +347,7 @@ pub record ReadWhole (k : ℕ) (act : List Pair) (bs : List TextBond) (before : 
   pub read : Read k [] act bs before
   pub ends : may_follow (latest before) None ≡ true
 
-piece_read : (a b c : List Role) (k : Role) (acc : List Role) → onto_all (a ++ (k ∷ (b ++ c))) acc ≡ onto_all c (onto_all b (k ∷ onto_all a acc))
+pub piece_read : (a b c : List Role) (k : Role) (acc : List Role) → onto_all (a ++ (k ∷ (b ++ c))) acc ≡ onto_all c (onto_all b (k ∷ onto_all a acc))
 piece_read a b c k acc = onto_append a (k ∷ (b ++ c)) acc ∙ onto_append b c (k ∷ onto_all a acc)
 
 pub text_read : (v : ℕ → ℕ → Option BondMark) (r : ℕ → ℕ → Bool) (n j : ℕ) (qs : List ℕ) (bs : List TextBond) (before : List Role) → IsNested (suc (suc j)) qs

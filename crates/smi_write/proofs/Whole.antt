@@ -16,7 +16,7 @@ use Rattle.smi_graph.specs.Links.{bonds_of}
 use Rattle.mc_mol.specs.declared.parts.Bond.{Bond}
 use Rattle.mc_mol.proofs.Halves.{same_test}
 use Rattle.smi_graph.specs.RingRules.{is_clash, pairs_again, is_pair_again}
-use Rattle.smi_mean.specs.Order.{Graph, order, parents, atoms}
+use Rattle.smi_mean.specs.Order.{Graph, order, parents}
 use Rattle.smi_mean.specs.RingNumbers.{onto_all, active}
 use Rattle.smi_mean.specs.Written.{at, has_ring}
 use Rattle.smi_write.specs.Nested.{IsNested}
@@ -96,7 +96,7 @@ no_pair (Dot ∷ before) h = (no_pair before (once_before before Dot h), refl)
 no_pair (Enter ∷ before) h = (no_pair before (once_before before Enter h), refl)
 no_pair (Leave ∷ before) h = (no_pair before (once_before before Leave h), refl)
 
-bit_le : (b : Bool) → bit b ≤ 1
+pub bit_le : (b : Bool) → bit b ≤ 1
 bit_le true = omega arith
 bit_le false = omega arith
 
@@ -158,7 +158,7 @@ pub record IsReadAs (g : Graph) (v : ℕ → ℕ → Option BondMark) (whole : L
   pub symbols : HasSymbols v (text_bonds whole)
   pub others : (j l : ℕ) → (l ≤ j) ⊎ (g.count ≤ l) → bond_count j l (bonds_of whole) ≡ 0
 
-end_none : (o : Option RingEnd) → opening_of o ≡ None → o ≡ None
+pub end_none : (o : Option RingEnd) → opening_of o ≡ None → o ≡ None
 end_none None h = refl
 end_none (Some x) h = cc
 
