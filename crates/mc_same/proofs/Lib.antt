@@ -2,4 +2,11 @@ pub mod Between
 pub mod Neighbours
 pub mod SidesDecided
 pub mod Verdicts
+pub mod OneDifference
 pub mod OneVerdict
+pub mod Fitting
+pub mod Onto
+pub mod Exact
+pub mod Counterparts
+pub mod SomeMolecule
+pub mod Bonded

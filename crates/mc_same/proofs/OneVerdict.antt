@@ -1,128 +1,129 @@
--- A verdict is one: each says that the points before its own hold, and that its own fails.
-use Rattle.std.proofs.Common.{arith, ◌≡◌, ◌-◌, ◌<◌, ℕ, zero, suc, List, [], ◌∷◌, length, refl, ap, inl, inr}
-use Rattle.std.proofs.lemmas.Bool.{cases_eq, cases_lt}
+-- Two molecules and a map have one verdict, and so have a text, a molecule and a map.
+use Rattle.std.proofs.Common.{arith, ◌≡◌, ℕ, suc, ◌+◌, ◌<◌, Bool, List, [], ◌∷◌, length, map, refl, subst}
 use Rattle.mc_base.specs.declared.ids.AtomId.{AtomId}
 use Rattle.mc_base.specs.declared.verdict.Verdict.{Verdict}
 use Rattle.mc_base.specs.declared.verdict.Verdict.TheVariants.{True, Length, Range, Repeat, Atom, Bonds, Bond, Centre, Sides}
 use Rattle.mc_mol.specs.Molecule.{Molecule}
-use Rattle.mc_same.specs.Differences.{IsVerdict, SameLength, InRange, IsNew, SameAtom, SameBond, CentreAgrees, SidesAgree, Holds, FailsFirst}
+use Rattle.mc_mol.specs.declared.parts.Bond.{Bond as BondParts}
+use Rattle.smi_graph.specs.declared.skel_atom.SkelAtom.{SkelAtom}
+use Rattle.smi_graph.specs.declared.text_bond.TextBond.{TextBond}
+use Rattle.smi_graph.specs.Candidates.{marked, AreCandidates}
+use Rattle.smi_graph.specs.Links.{bond_of}
+use Rattle.smi_graph.specs.Skeletons.{TextGraph}
+use Rattle.smi_mean.specs.Barriers.{needs_of}
+use Rattle.smi_mean.specs.Lying.{lying_of}
+use Rattle.smi_mean.specs.Placements.{meaning_under}
+use Rattle.smi_mean.proofs.BarrierTests.{marks_agree}
+use Rattle.smi_mean.proofs.PlacedBonds.{bonds_count}
+use Rattle.mc_same.specs.Differences.{IsVerdict, SameLength, InRange, IsNew, SameAtom, SameBond, CentreAgrees, SidesAgree}
+use Rattle.mc_same.specs.Stands.{doubles_from, doubles, AtomFits, BondFits, IsFitVerdict, IsStandsVerdict}
+use Rattle.mc_same.proofs.OneDifference.{Points, IsDifference, difference_once}
 
--- two numbers at which a rule fails first are one
-fails_once : (count : ℕ) (P : ℕ → Type 0) (k l : ℕ) → FailsFirst count P k → FailsFirst count P l → k ≡ l
-fails_once count P k l at_k at_l = elim (cases_eq k l) [
-  | inl same ↦ same
-  | inr other ↦ elim (cases_lt k l) [
-    | inl less ↦ absurd (at_k.fails (at_l.before (k - 1) (let some = at_k.from_one in omega arith)))
-    | inr more ↦ absurd (at_l.fails (at_k.before (l - 1) (let some = at_l.from_one in omega arith)))
-  ]
-]
+-- of two molecules
 
--- a rule that fails somewhere doesn't hold
-not_held : (count : ℕ) (P : ℕ → Type 0) (k : ℕ) → FailsFirst count P k → Holds count P → ⊥
-not_held count P k at all = at.fails (all (k - 1) (let some = at.from_one in let within = at.within in omega arith))
+abbrev of_molecules : Molecule → Molecule → List AtomId → Points
+of_molecules m n f = record {
+  same_length = SameLength m n f;
+  entries = length f;
+  in_range = InRange m f;
+  is_new = IsNew f;
+  atom = SameAtom m n f;
+  same_bonds = length n.bonds ≡ length m.bonds;
+  bonds = length n.bonds;
+  bond = SameBond m n f;
+  centre = CentreAgrees m n f;
+  sides = SidesAgree m n f;
+}
 
--- the points in the order in which they are looked at
-points : Molecule → Molecule → List AtomId → List (Type 0)
-points m n f = SameLength m n f ∷ Holds (length f) (InRange m f) ∷ Holds (length f) (IsNew f) ∷ Holds (length f) (SameAtom m n f) ∷ (length n.bonds ≡ length m.bonds)
-    ∷ Holds (length n.bonds) (SameBond m n f) ∷ Holds (length f) (CentreAgrees m n f) ∷ Holds (length n.bonds) (SidesAgree m n f) ∷ []
-
--- a point by its number; none is behind the last
-abbrev at_point : List (Type 0) → ℕ → Type 0
-at_point [] i = ⊥
-at_point (P ∷ Ps) zero = P
-at_point (P ∷ Ps) (suc i) = at_point Ps i
-
--- all points before one
-abbrev before : List (Type 0) → ℕ → Type 0
-before Ps zero = Unit
-before [] (suc k) = ⊥
-before (P ∷ Ps) (suc k) = P × before Ps k
-
-earlier : (Ps : List (Type 0)) (i k : ℕ) → i < k → before Ps k → at_point Ps i
-earlier Ps i zero less all = absurd (omega arith)
-earlier [] i (suc k) less all = absurd all
-earlier (P ∷ Ps) zero (suc k) less all = all.0
-earlier (P ∷ Ps) (suc i) (suc k) less all = earlier Ps i k (omega arith) all.1
-
--- the point that a verdict is about
-level : Verdict → ℕ
-level Length = 0
-level (Range k) = 1
-level (Repeat k) = 2
-level (Atom k) = 3
-level Bonds = 4
-level (Bond k) = 5
-level (Centre k) = 6
-level (Sides k) = 7
-level True = 8
-
-all_before : (m n : Molecule) (f : List AtomId) (v : Verdict) → IsVerdict m n f v → before (points m n f) (level v)
-unfolding points level
-all_before m n f Length is = tt
-all_before m n f (Range k) is = (is.0, tt)
-all_before m n f (Repeat k) is = (is.0, (is.1, tt))
-all_before m n f (Atom k) is = (is.0.0, (is.0.1, (is.0.2, tt)))
-all_before m n f Bonds is = (is.0.0, (is.0.1, (is.0.2, (is.1, tt))))
-all_before m n f (Bond k) is = (is.0.0, (is.0.1, (is.0.2, (is.1, (is.2, tt)))))
-all_before m n f (Centre k) is = (is.0.0.0, (is.0.0.1, (is.0.0.2, (is.0.1, (is.0.2, (is.0.3, tt))))))
-all_before m n f (Sides k) is = (is.0.0.0, (is.0.0.1, (is.0.0.2, (is.0.1, (is.0.2, (is.0.3, (is.1, tt)))))))
-all_before m n f True same = (
-  (same.length_map, same.length_atoms),
+difference_of : (m n : Molecule) (f : List AtomId) (v : Verdict) → IsVerdict m n f v → IsDifference (of_molecules m n f) v
+difference_of m n f True same = (
   (
-    same.in_range,
-    (
-      (λ k within j less e. same.distinct j k less within e),
-      (
-        same.atoms,
-        (
-          same.length_bonds,
-          (
-            (λ k within bond is. same.bonds k bond is),
-            (
-              (λ k within q p at_q at_p. same.centres k q p within at_q at_p),
-              ((λ k within l bond counterpart s t is_bond is_counterpart joined at_s at_t. same.sides k l bond counterpart s t is_bond is_counterpart joined at_s at_t), tt),
-            ),
-          ),
-        ),
-      ),
-    ),
+    ((same.length_map, same.length_atoms), same.in_range, (λ k within j less e. same.distinct j k less within e)),
+    same.atoms,
+    same.length_bonds,
+    (λ k within bond is. same.bonds k bond is),
   ),
+  (λ k within q p at_q at_p. same.centres k q p within at_q at_p),
+  (λ k within l bond counterpart s t is_bond is_counterpart joined at_s at_t. same.sides k l bond counterpart s t is_bond is_counterpart joined at_s at_t),
 )
-
-own_fails : (m n : Molecule) (f : List AtomId) (v : Verdict) → IsVerdict m n f v → at_point (points m n f) (level v) → ⊥
-unfolding points level
-own_fails m n f Length is held = is held
-own_fails m n f (Range k) is held = not_held (length f) (InRange m f) k is.1 held
-own_fails m n f (Repeat k) is held = not_held (length f) (IsNew f) k is.2 held
-own_fails m n f (Atom k) is held = not_held (length f) (SameAtom m n f) k is.1 held
-own_fails m n f Bonds is held = is.2 held
-own_fails m n f (Bond k) is held = not_held (length n.bonds) (SameBond m n f) k is.3 held
-own_fails m n f (Centre k) is held = not_held (length f) (CentreAgrees m n f) k is.1 held
-own_fails m n f (Sides k) is held = not_held (length n.bonds) (SidesAgree m n f) k is.2 held
-own_fails m n f True is held = held
-
--- no verdict is about an earlier point than another one
-not_less : (m n : Molecule) (f : List AtomId) (v w : Verdict) → IsVerdict m n f v → IsVerdict m n f w → level v < level w → ⊥
-not_less m n f v w is also less = own_fails m n f v is (earlier (points m n f) (level v) (level w) less (all_before m n f w also))
-
-same_level : (m n : Molecule) (f : List AtomId) (v w : Verdict) → IsVerdict m n f v → IsVerdict m n f w → level v ≡ level w → v ≡ w
-unfolding level
-same_level m n f Length Length is also e = refl
-same_level m n f (Range k) (Range l) is also e = ap Range (fails_once (length f) (InRange m f) k l is.1 also.1)
-same_level m n f (Repeat k) (Repeat l) is also e = ap Repeat (fails_once (length f) (IsNew f) k l is.2 also.2)
-same_level m n f (Atom k) (Atom l) is also e = ap Atom (fails_once (length f) (SameAtom m n f) k l is.1 also.1)
-same_level m n f Bonds Bonds is also e = refl
-same_level m n f (Bond k) (Bond l) is also e = ap Bond (fails_once (length n.bonds) (SameBond m n f) k l is.3 also.3)
-same_level m n f (Centre k) (Centre l) is also e = ap Centre (fails_once (length f) (CentreAgrees m n f) k l is.1 also.1)
-same_level m n f (Sides k) (Sides l) is also e = ap Sides (fails_once (length n.bonds) (SidesAgree m n f) k l is.2 also.2)
-same_level m n f True True is also e = refl
-same_level m n f _ _ is also e = absurd (omega arith)
+difference_of m n f Length is = is
+difference_of m n f (Range k) is = is
+difference_of m n f (Repeat k) is = is
+difference_of m n f (Atom k) is = is
+difference_of m n f Bonds is = is
+difference_of m n f (Bond k) is = is
+difference_of m n f (Centre k) is = is
+difference_of m n f (Sides k) is = is
 
 pub verdict_once : (m n : Molecule) (f : List AtomId) (v w : Verdict) → IsVerdict m n f v → IsVerdict m n f w → v ≡ w
-verdict_once m n f v w is also = elim (cases_eq (level v) (level w)) [
-  | inl same ↦ same_level m n f v w is also same
-  | inr other ↦ elim (cases_lt (level v) (level w)) [
-    | inl less ↦ absurd (not_less m n f v w is also less)
-    | inr more ↦ absurd (not_less m n f w v also is (omega arith))
-  ]
-]
+verdict_once m n f v w is also = difference_once (of_molecules m n f) v w (difference_of m n f v is) (difference_of m n f w also)
+
+-- of a text and a molecule
+
+abbrev of_text : Molecule → List Bool → List Bool → Molecule → List AtomId → Points
+of_text m needs lying n f = record {
+  same_length = SameLength m n f;
+  entries = length f;
+  in_range = InRange m f;
+  is_new = IsNew f;
+  atom = AtomFits m needs n f;
+  same_bonds = length n.bonds ≡ length m.bonds;
+  bonds = length n.bonds;
+  bond = BondFits m lying n f;
+  centre = CentreAgrees m n f;
+  sides = SidesAgree m n f;
+}
+
+fit_difference : (m : Molecule) (needs lying : List Bool) (n : Molecule) (f : List AtomId) (v : Verdict) → IsFitVerdict m needs lying n f v
+    → IsDifference (of_text m needs lying n f) v
+fit_difference m needs lying n f True is = is
+fit_difference m needs lying n f Length is = is
+fit_difference m needs lying n f (Range k) is = is
+fit_difference m needs lying n f (Repeat k) is = is
+fit_difference m needs lying n f (Atom k) is = is
+fit_difference m needs lying n f Bonds is = is
+fit_difference m needs lying n f (Bond k) is = is
+fit_difference m needs lying n f (Centre k) is = is
+fit_difference m needs lying n f (Sides k) is = is
+
+pub fit_once : (m : Molecule) (needs lying : List Bool) (n : Molecule) (f : List AtomId) (v w : Verdict) → IsFitVerdict m needs lying n f v
+    → IsFitVerdict m needs lying n f w → v ≡ w
+fit_once m needs lying n f v w is also = difference_once (of_text m needs lying n f) v w (fit_difference m needs lying n f v is) (fit_difference m needs lying n f w also)
+
+pub stands_once : (skeleton : TextGraph) (n : Molecule) (f : List AtomId) (v w : Verdict) → IsStandsVerdict skeleton n f v → IsStandsVerdict skeleton n f w → v ≡ w
+stands_once skeleton n f v w is also =
+    fit_once (meaning_under skeleton.atoms (map bond_of skeleton.bonds) (doubles skeleton n f)) (needs_of skeleton.atoms skeleton.bonds) (lying_of skeleton.atoms skeleton.bonds (doubles skeleton n f)) n f v w is also
+
+-- whichever list marks the candidates of the text
+doubles_same : (marks others : List Bool) (written : List BondParts) (f : List AtomId) (j : ℕ) (bonds : List BondParts) → ((k : ℕ) → k < length bonds → marked marks (j + k) ≡ marked others (j + k))
+    → doubles_from marks written f j bonds ≡ doubles_from others written f j bonds
+doubles_same marks others written f j [] same = refl
+doubles_same marks others written f j (b ∷ bonds) same = rw (first (same 0 (omega arith)), doubles_same marks others written f (j + 1) bonds later) refl
+  where
+    first : marked marks (j + 0) ≡ marked others (j + 0) → marked marks j ≡ marked others j
+    first e = let h : j + 0 ≡ j = omega arith in subst (λ (n : ℕ). marked marks n ≡ marked others n) h e
+
+    later : (k : ℕ) → k < length bonds → marked marks (j + 1 + k) ≡ marked others (j + 1 + k)
+    later k less = let e : j + suc k ≡ j + 1 + k = omega arith in subst (λ (n : ℕ). marked marks n ≡ marked others n) e (same (suc k) (omega arith))
+
+-- whether it is the verdict of a text with these atoms, bonds and candidates
+abbrev IsVerdictOf : Molecule → List AtomId → Verdict → List SkelAtom → List TextBond → List Bool → Type 0
+IsVerdictOf n f v atoms bonds marks =
+    IsFitVerdict (meaning_under atoms (map bond_of bonds) (doubles_from marks n.bonds f 0 (map bond_of bonds))) (needs_of atoms bonds) (lying_of atoms bonds (doubles_from marks n.bonds f 0 (map bond_of bonds))) n f v
+
+marked_alike : (atoms : List SkelAtom) (bonds : List TextBond) (marks others : List Bool) (n : Molecule) (f : List AtomId) (v : Verdict) → AreCandidates atoms bonds marks → AreCandidates atoms bonds others
+    → IsVerdictOf n f v atoms bonds marks → IsVerdictOf n f v atoms bonds others
+marked_alike atoms bonds marks others n f v are also is =
+    let same : doubles_from marks n.bonds f 0 (map bond_of bonds) ≡ doubles_from others n.bonds f 0 (map bond_of bonds) =
+    doubles_same marks others n.bonds f 0 (map bond_of bonds) (λ k less.
+    let e : k ≡ 0 + k = omega arith in
+    let size = bonds_count bonds in subst (λ (j : ℕ). marked marks j ≡ marked others j) e (marks_agree atoms bonds marks others are also k (omega arith))) in
+    subst (λ (d : List Bool). IsFitVerdict (meaning_under atoms (map bond_of bonds) d) (needs_of atoms bonds) (lying_of atoms bonds d) n f v) same is
+
+-- skeletons of the same atoms and bonds have the same verdicts
+pub stands_of_text : (s t : TextGraph) (n : Molecule) (f : List AtomId) (v : Verdict) → s.atoms ≡ t.atoms → s.bonds ≡ t.bonds
+    → AreCandidates s.atoms s.bonds s.candidates → AreCandidates t.atoms t.bonds t.candidates → IsStandsVerdict s n f v → IsStandsVerdict t n f v
+stands_of_text s t n f v atoms bonds are also is =
+    let moved : IsVerdictOf n f v t.atoms t.bonds s.candidates = subst (λ (x : List TextBond). IsVerdictOf n f v t.atoms x s.candidates) bonds (subst (λ (x : List SkelAtom). IsVerdictOf n f v x s.bonds s.candidates) atoms is) in
+    let marks : AreCandidates t.atoms t.bonds s.candidates = subst (λ (x : List TextBond). AreCandidates t.atoms x s.candidates) bonds (subst (λ (x : List SkelAtom). AreCandidates x s.bonds s.candidates) atoms are) in
+    marked_alike t.atoms t.bonds s.candidates t.candidates n f v marks also moved

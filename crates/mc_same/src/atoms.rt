@@ -44,7 +44,7 @@ fn same_element(first: Element, second: Element) -> bool
     first == second
 }
 
-fn same_atom(first: Atom, second: Atom) -> bool
+pub fn same_atom(first: Atom, second: Atom) -> bool
     ensures { IsTrue result ↔ (first ≡ second) }
 {
     same_element(first.element, second.element)

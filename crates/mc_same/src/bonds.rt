@@ -50,7 +50,7 @@ fn bond_near(mol: &Mol, u: AtomId, v: AtomId, near: u32) -> Option<BondId>
 }
 
 /// The input's bond for a bond of the output, if it has one of its order.
-fn counterpart(input: &Mol, map: &[AtomId], bond: Bond, near: u32) -> Option<BondId>
+pub fn counterpart(input: &Mol, map: &[AtomId], bond: Bond, near: u32) -> Option<BondId>
     requires well_formed { IsMolecule input.now }
     requires bond { IsBond (length map.now) bond }
     requires in_range { Holds (length map.now) (InRange input.now map.now) }

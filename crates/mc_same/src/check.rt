@@ -80,7 +80,7 @@ fn compare_graphs(input: &Mol, output: &Mol, map: &[AtomId]) -> Verdict
 }
 
 /// The first difference where atoms and bonds correspond.
-fn compare_stereo(input: &Mol, output: &Mol, map: &[AtomId]) -> Verdict
+pub fn compare_stereo(input: &Mol, output: &Mol, map: &[AtomId]) -> Verdict
     requires input { IsMolecule input.now }
     requires output { IsMolecule output.now }
     requires graph { SameGraph input.now output.now map.now }
@@ -96,4 +96,4 @@ fn compare_stereo(input: &Mol, output: &Mol, map: &[AtomId]) -> Verdict
 }
 
 #[cfg(test)]
-mod tests;
+pub(crate) mod tests;

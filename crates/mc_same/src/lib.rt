@@ -7,5 +7,7 @@ mod bonds;
 mod centres;
 mod check;
 mod sides;
+mod stands;
 
 pub use check::{check_map, verdict_law};
+pub use stands::{check_stands, stands_law};

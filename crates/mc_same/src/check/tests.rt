@@ -6,7 +6,7 @@ use std::alloc::Global;
 use std::process::Abort;
 use std::test::Fail;
 
-fn atom(element: Element, hydrogens: u8) -> Atom {
+pub(crate) fn atom(element: Element, hydrogens: u8) -> Atom {
     Atom {
         element,
         isotope: 0,
@@ -17,7 +17,7 @@ fn atom(element: Element, hydrogens: u8) -> Atom {
 }
 
 /// Adds a bond of the order 1 to 4 between two atoms that are there and are no stereocentres.
-fn join(mol: &mut Mol, u: u32, v: u32, order: u8) -> Result<(), Fail> {
+pub(crate) fn join(mol: &mut Mol, u: u32, v: u32, order: u8) -> Result<(), Fail> {
     if u >= mol.atom_count() || v >= mol.atom_count() || order < 1 || order > 4 {
         return Err("no such bond".into());
     }
