@@ -1,11 +1,11 @@
 -- The cases of an answer.
 use Rattle.std.proofs.Common.{arith, ◌≡◌, ◌∙◌, ℕ, List, [], ◌∷◌, ◌++◌, Bool, true, false, refl, sym, ap, subst, inl, inr}
 use Rattle.std.specs.List.{list_all}
-use Rattle.std.specs.Prelude.{◌↔◌, ◌<◌, ◌||◌, ◌==◌, IsTrue, not, nat_le, if◌then◌else◌, filter, map, cond}
+use Rattle.std.specs.Prelude.{Option, Some, None, ◌↔◌, ◌<◌, ◌||◌, ◌==◌, IsTrue, not, nat_le, if◌then◌else◌, filter, map, cond}
 use Rattle.std.proofs.lemmas.Bool.Decides.{nat_tests}
-use Rattle.std.proofs.lemmas.Bool.{false≢true, and_parts}
+use Rattle.std.proofs.lemmas.Bool.{false≢true, and_parts, or_parts}
 use Rattle.mc_base.specs.declared.kind.Kind.{Kind}
-use Rattle.mc_base.specs.declared.kind.Kind.TheVariants.{LineTooLong}
+use Rattle.mc_base.specs.declared.kind.Kind.TheVariants.{LineTooLong, NoPlacement}
 use Rattle.mc_base.specs.declared.refusal.Refusal.{Refusal}
 use Rattle.mc_base.specs.declared.span.Span.{Span}
 use Rattle.mc_base.specs.Kinds.{number}
@@ -13,6 +13,7 @@ use Rattle.mc_io.specs.Lines.{line_feed, carriage_return, onto_first, pieces, on
 use Rattle.mc_mol.specs.Molecule.{Molecule}
 use Rattle.mc_report.specs.Report.{refused_line}
 use Rattle.smi_mean.specs.Lines.{is_blank, text_of, name_of}
+use Rattle.smi_graph.specs.Skeletons.{TextGraph}
 use Rattle.smi_mean.specs.Rules.{SmilesStands}
 use Rattle.smi_mean.specs.Written.{written_text}
 use Rattle.mc_convert.specs.declared.answer.Answer.{Answer}
@@ -24,7 +25,7 @@ use Rattle.mc_convert.specs.Records.{IsGiven, Record, Line, TooLong, is_some_tex
 use Rattle.mc_convert.specs.Answers.{StandsIn, RecordStands, Shows, IsAnswer}
 use Rattle.mc_convert.specs.declared.record_read.RecordRead.TheVariants.{Refused, Stands}
 use Rattle.mc_convert.specs.Accepted.{IsAccepted}
-use Rattle.mc_convert.specs.Findings.{IsReadAs}
+use Rattle.mc_convert.specs.Findings.{IsTextOf, IsTextKept, IsReadAs}
 use Rattle.mc_convert.specs.Runs.{IsShown}
 
 -- ---- a written line is one record
@@ -39,17 +40,13 @@ no_feed_high b h = grind (arith, nat_tests)
 no_return_high : (b : ℕ) → nat_le 33 b ≡ true → (b == carriage_return) ≡ false
 no_return_high b h = grind (arith, nat_tests)
 
-neither : (p q : Bool) → (p || q) ≡ false → (p ≡ false) × (q ≡ false)
-neither true q e = absurd cc
-neither false q e = (refl, e)
-
 -- what stands behind something that ends with no carriage return
 onto_some : (b c : ℕ) (text : List ℕ) → line_text_of (c ∷ text) ≡ c ∷ text → line_text_of (b ∷ c ∷ text) ≡ b ∷ c ∷ text
 onto_some b c text same = ap (onto_text b) same
 
 -- what stands behind a byte of a line's text is such a text
 text_behind : (b : ℕ) (bytes : List ℕ) → IsLineText (b ∷ bytes) → IsLineText bytes
-text_behind b bytes h = record { one = (neither (b == line_feed) (has_feed bytes) h.one).1; ends = behind b bytes (line_text_of bytes) h.ends }
+text_behind b bytes h = record { one = (or_parts (b == line_feed) (has_feed bytes) h.one).1; ends = behind b bytes (line_text_of bytes) h.ends }
   where
     alone : (t : Bool) (b : ℕ) (bytes : List ℕ) → (if t then [] else b ∷ []) ≡ b ∷ bytes → [] ≡ bytes
     alone true b bytes e = absurd cc
@@ -107,7 +104,7 @@ with_name_text (b ∷ bs) (c ∷ cs) high named = text_with (b ∷ bs) 32 (c ∷
 one_piece : (text : List ℕ) → has_feed text ≡ false → pieces (line text) ≡ text ∷ []
 one_piece [] clear = refl
 one_piece (b ∷ bs) clear =
-    let both = neither (b == line_feed) (has_feed bs) clear in
+    let both = or_parts (b == line_feed) (has_feed bs) clear in
     rw (both.0) (ap (onto_first b) (one_piece bs both.1))
 
 one_text : (text : List ℕ) → IsLineText text → is_some_text text ≡ true → record_texts (line text) ≡ text ∷ []
@@ -195,33 +192,50 @@ pub not_shown : (to : Target) (given : Record) (m : Molecule) → RecordStands g
 not_shown to TooLong m stands shown = stands
 not_shown to (Line text) m stands (refusal, shows) = stands.accepted refusal.kind refusal.place shows.stands
 
-pub is_written : (to : Target) (k : ℕ) (given : Given) (m : Molecule) (at : Span) (name : List ℕ) (answer : Answer) → IsGiven given → IsReadAs (record_of given) (Stands m at) → name ≡ name_in (record_of given)
+pub is_written : (to : Target) (k : ℕ) (given : Given) (m : Molecule) (skeleton : TextGraph) (at : Span) (name : List ℕ) (answer : Answer) → IsGiven given → IsReadAs (record_of given) (Stands m skeleton at) → name ≡ name_in (record_of given)
     → IsAccepted to k m name answer → IsAnswer to k (record_of given) record { out = answer.out; report = answer.report }
-is_written to k given m at name answer whole read named a =
+is_written to k given m skeleton at name answer whole read named a =
     written to k given m answer whole read.stands (subst (λ (x : List ℕ). IsAccepted to k m x answer) named a)
 
-pub none_shown : (to : Target) (k : ℕ) (given : Record) (m : Molecule) (at : Span) (name : List ℕ) (answer : Answer) → IsReadAs given (Stands m at) → IsAccepted to k m name answer → IsTrue answer.refused ↔ IsShown to given
-none_shown to k given m at name answer read a =
+pub none_shown : (to : Target) (k : ℕ) (given : Record) (m : Molecule) (skeleton : TextGraph) (at : Span) (name : List ℕ) (answer : Answer) → IsReadAs given (Stands m skeleton at) → IsAccepted to k m name answer → IsTrue answer.refused ↔ IsShown to given
+none_shown to k given m skeleton at name answer read a =
     (λ on. absurd (false≢true (sym (accepted_is to k m name answer a) ∙ on)), λ shown. absurd (not_shown to given m read.stands shown))
 
 -- a refusal that is shown is an answer
-pub is_refused : (to : Target) (k : ℕ) (given : Record) (refusal : Refusal) (answer : Answer) → IsReadAs given (Refused refusal) → answer ≡ record { out = []; report = refused_line k refusal; refused = true }
+pub is_refused : (to : Target) (k : ℕ) (given : Record) (refusal : Refusal) (skeleton : Option TextGraph) (answer : Answer) → IsReadAs given (Refused refusal skeleton) → answer ≡ record { out = []; report = refused_line k refusal; refused = true }
     → IsAnswer to k given record { out = answer.out; report = answer.report }
-is_refused to k given refusal answer read is =
-    inr (record { refusal = refusal; shows = read to; out = ap (λ (a : Answer). a.out) is; report = ap (λ (a : Answer). a.report) is })
+is_refused to k given refusal skeleton answer read is =
+    inr (record { refusal = refusal; shows = read.shows to; out = ap (λ (a : Answer). a.out) is; report = ap (λ (a : Answer). a.report) is })
 
-pub is_shown : (to : Target) (k : ℕ) (given : Record) (refusal : Refusal) (answer : Answer) → IsReadAs given (Refused refusal) → answer ≡ record { out = []; report = refused_line k refusal; refused = true }
+pub is_shown : (to : Target) (k : ℕ) (given : Record) (refusal : Refusal) (skeleton : Option TextGraph) (answer : Answer) → IsReadAs given (Refused refusal skeleton) → answer ≡ record { out = []; report = refused_line k refusal; refused = true }
     → IsTrue answer.refused ↔ IsShown to given
-is_shown to k given refusal answer read is = (λ _. (refusal, read to), λ _. ap (λ (a : Answer). a.refused) is)
+is_shown to k given refusal skeleton answer read is = (λ _. (refusal, read.shows to), λ _. ap (λ (a : Answer). a.refused) is)
 
 -- ---- a line that is too long
 
 abbrev long_refusal : Refusal
 long_refusal = record { kind = LineTooLong; place = 1; barrier = []; odd = 0 }
 
-pub long_shown : (to : Target) → Shows to TooLong long_refusal
+long_shown : (to : Target) → Shows to TooLong long_refusal
 long_shown to = record { stands = refl; least = λ place h. omega arith; first = none_first; reason = (refl, refl) }
   where
     none_first : (kind : Kind) (place : ℕ) → number kind < number LineTooLong → StandsIn to TooLong kind place → ⊥
     none_first LineTooLong place less h = omega arith
     none_first _ place less h = h
+
+pub long_read : IsReadAs TooLong (Refused long_refusal None)
+long_read = record { shows = long_shown; text = tt }
+
+-- ---- a line that is refused
+
+-- a kind that keeps no text
+pub other_read : (given : Record) (refusal : Refusal) → ((to : Target) → Shows to given refusal) → (refusal.kind ≡ NoPlacement → ⊥) → IsReadAs given (Refused refusal None)
+other_read given refusal shows other = record { shows = shows; text = kept refusal.kind other }
+  where
+    kept : (kind : Kind) → (kind ≡ NoPlacement → ⊥) → IsTextKept given kind None
+    kept NoPlacement not = absurd (not refl)
+    kept _ not = tt
+
+pub unplaced_read : (given : Record) (refusal : Refusal) (skeleton : TextGraph) → ((to : Target) → Shows to given refusal) → refusal.kind ≡ NoPlacement → IsTextOf given skeleton
+    → IsReadAs given (Refused refusal (Some skeleton))
+unplaced_read given refusal skeleton shows kind text = record { shows = shows; text = subst (λ (k : Kind). IsTextKept given k (Some skeleton)) (sym kind) text }

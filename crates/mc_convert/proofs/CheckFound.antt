@@ -1,25 +1,37 @@
 -- One original with its line of the report.
-use Rattle.std.proofs.Common.{◌≡◌, ℕ, List, Option, Some, None, refl, sym, subst, inl, inr}
+use Rattle.std.proofs.Common.{◌≡◌, ◌∙◌, ◌<◌, ℕ, Bool, true, false, List, length, Option, Some, None, refl, ap, sym, subst, inl, inr}
+use Rattle.std.specs.Prelude.{◌↔◌, IsTrue, slice_get}
+use Rattle.std.proofs.lemmas.Bool.{false≢true}
+use Rattle.std.proofs.lemmas.Option.{slice_get_within}
 use Rattle.mc_base.specs.declared.ids.AtomId.{AtomId}
 use Rattle.mc_base.specs.declared.refusal.Refusal.{Refusal}
 use Rattle.mc_base.specs.declared.span.Span.{Span}
 use Rattle.mc_base.specs.declared.verdict.Verdict.{Verdict}
 use Rattle.mc_mol.specs.Molecule.{Molecule}
-use Rattle.mc_same.specs.Differences.{IsVerdict}
+use Rattle.mc_base.specs.declared.kind.Kind.TheVariants.{NoPlacement}
+use Rattle.smi_graph.specs.declared.skel_atom.SkelAtom.{SkelAtom}
+use Rattle.smi_graph.specs.declared.text_bond.TextBond.{TextBond}
+use Rattle.smi_graph.specs.Candidates.{IsCandidate, marked}
+use Rattle.smi_graph.specs.Rules.{atoms_in}
+use Rattle.smi_graph.specs.Skeletons.{TextGraph}
+use Rattle.smi_mean.specs.Barriers.{IsBarrierIn}
+use Rattle.smi_mean.specs.Lines.{text_of}
+use Rattle.smi_mean.proofs.PlacedBonds.{bond_at}
+use Rattle.mc_same.specs.Stands.{IsStandsVerdict}
 use Rattle.mc_report.specs.declared.report_line.ReportLine.{ReportLine}
 use Rattle.mc_report.specs.declared.report_line.ReportLine.TheVariants.{Ok as OkLine, Refused as RefusedLine}
 use Rattle.mc_report.specs.Grammar.{number_of}
 use Rattle.mc_io.specs.Lines.{lines_of}
 use Rattle.mc_convert.specs.declared.formats.Target.{Target}
 use Rattle.mc_convert.specs.Formats.{read_back}
-use Rattle.mc_convert.specs.Records.{Record}
+use Rattle.mc_convert.specs.Records.{Record, Line as RecordLine, TooLong as RecordLong}
 use Rattle.mc_convert.specs.declared.finding.Finding.{Finding}
 use Rattle.mc_convert.specs.declared.finding.Finding.TheVariants.{Input, Map, Output, Report}
 use Rattle.mc_convert.specs.declared.record_read.RecordRead.{RecordRead}
 use Rattle.mc_convert.specs.declared.record_read.RecordRead.TheVariants.{Refused, Stands}
 use Rattle.mc_convert.specs.Records.{records}
-use Rattle.mc_convert.specs.Answers.{Shows}
-use Rattle.mc_convert.specs.Findings.{Says, IsMapFinding, IsReadAs, IsRefusalFinding, AreReadAs}
+use Rattle.mc_convert.specs.Answers.{IsBarrierOf}
+use Rattle.mc_convert.specs.Findings.{Says, IsTextOf, IsTextKept, HasCandidate, IsMapFinding, IsReadAs, IsReadRefused, IsRefusalFinding, AreReadAs}
 use Rattle.mc_convert.specs.Checks.{first}
 use Rattle.mc_convert.specs.CheckSteps.{ReadsNext, SaidNext, FindsNext}
 
@@ -118,21 +130,71 @@ pub found_by_next : (to : Target) (given : Record) (next : Option Record) (read 
 found_by_next to given None read map finding also found = absurd also
 found_by_next to given (Some converted) read map finding also found = found converted also
 
-pub refused_input : (to : Target) (given next : Record) (refusal : Refusal) (map : List AtomId) → IsReadAs given (Refused refusal) → IsMapFinding to given (Some next) map Input
-refused_input to given next refusal map is = (refusal, is to)
+pub refused_input : (to : Target) (given next : Record) (refusal : Refusal) (skeleton : Option TextGraph) (map : List AtomId) → IsReadAs given (Refused refusal skeleton) → IsMapFinding to given (Some next) map Input
+refused_input to given next refusal skeleton map is = (refusal, is.shows to)
 
--- a record that is read as refused shows that
-pub refused_shows : (to : Target) (given : Record) (read : RecordRead) (refusal : Refusal) → read ≡ Refused refusal → IsReadAs given read → Shows to given refusal
-refused_shows to given read refusal is reads = shown_by (subst (λ (r : RecordRead). IsReadAs given r) is reads)
+-- a record that is read as refused
+pub read_refused : (given : Record) (read : RecordRead) (refusal : Refusal) (skeleton : Option TextGraph) → read ≡ Refused refusal skeleton → IsReadAs given read → IsReadRefused given refusal skeleton
+read_refused given read refusal skeleton is reads = subst (λ (r : RecordRead). IsReadAs given r) is reads
+
+pub refused_output : (to : Target) (given next : Record) (m : Molecule) (skeleton : TextGraph) (name : Span) (refusal : Refusal) (other : Option TextGraph) (map : List AtomId)
+    → IsReadAs given (Stands m skeleton name) → IsReadAs next (Refused refusal other) → IsMapFinding to given (Some next) map Output
+refused_output to given next m skeleton name refusal other map is also = record { input = m; stands = is.stands; shown = inl (refusal, also.shows to) }
+
+-- candidates of a record, by those that are marked in its skeleton
+
+candidate_of : (next : Record) (written : TextGraph) → IsTextOf next written → (k : ℕ) → k < length written.bonds → marked written.candidates k ≡ true → HasCandidate next
+candidate_of RecordLong written text k less at = absurd text
+candidate_of (RecordLine bytes) written text k less at =
+    let (b, there) = bond_at written.bonds k less in
+    let is : IsCandidate written.atoms written.bonds b = (text.limits.candidates k b there).0 at in (
+      k,
+      b,
+      ap (λ (x : List TextBond). slice_get x k) (sym text.bonds) ∙ there,
+      subst (λ (x : List TextBond). IsCandidate (atoms_in (text_of bytes)) x b) text.bonds (subst (λ (x : List SkelAtom). IsCandidate x written.bonds b) text.atoms is),
+    )
+
+plain_of : (next : Record) (written : TextGraph) → IsTextOf next written → ((k : ℕ) → k < length written.bonds → marked written.candidates k ≡ false) → HasCandidate next → ⊥
+plain_of RecordLong written text none has = text
+plain_of (RecordLine bytes) written text none (k, b, at, is) =
+    let there : slice_get written.bonds k ≡ Some b = ap (λ (x : List TextBond). slice_get x k) text.bonds ∙ at in
+    let here : IsCandidate written.atoms written.bonds b =
+    subst (λ (x : List SkelAtom). IsCandidate x written.bonds b) (sym text.atoms) (subst (λ (x : List TextBond). IsCandidate (atoms_in (text_of bytes)) x b) (sym text.bonds) is) in
+    false≢true (sym (none k (slice_get_within written.bonds k b there)) ∙ (text.limits.candidates k b there).1 here)
+
+pub candidate_output : (to : Target) (given next : Record) (m n : Molecule) (skeleton written : TextGraph) (name other : Span) (map : List AtomId) → IsReadAs given (Stands m skeleton name)
+    → IsReadAs next (Stands n written other) → (k : ℕ) × (k < length written.bonds) × (marked written.candidates k ≡ true) → IsMapFinding to given (Some next) map Output
+candidate_output to given next m n skeleton written name other map is also (k, less, at) =
+    record { input = m; stands = is.stands; shown = inr (candidate_of next written also.text k less at) }
+
+pub both_read : (to : Target) (given next : Record) (m n : Molecule) (skeleton written : TextGraph) (name other : Span) (map : List AtomId) (v : Verdict) → IsReadAs given (Stands m skeleton name)
+    → IsReadAs next (Stands n written other) → ((k : ℕ) → k < length written.bonds → marked written.candidates k ≡ false) → IsStandsVerdict skeleton n map v → IsMapFinding to given (Some next) map (Map v)
+both_read to given next m n skeleton written name other map v is also none compared = record {
+  skeleton = skeleton;
+  input = m;
+  output = n;
+  input_stands = is.stands;
+  text = is.text;
+  output_stands = also.stands;
+  plain = plain_of next written also.text none;
+  is = compared;
+}
+
+-- ---- barriers
+
+pub barrier_shown : (to : Target) (given : Record) (skeleton : Option TextGraph) (graph : TextGraph) (barrier : List AtomId) (odd : ℕ) (right : Bool) → skeleton ≡ Some graph → IsTextKept given NoPlacement skeleton
+    → (IsTrue right ↔ IsBarrierIn graph.atoms graph.bonds barrier odd) → IsTrue right ↔ IsBarrierOf to given barrier odd
+barrier_shown to given skeleton graph barrier odd right is kept decides = by_record given (subst (λ (x : Option TextGraph). IsTextKept given NoPlacement x) is kept)
   where
-    shown_by : IsReadAs given (Refused refusal) → Shows to given refusal
-    shown_by h = h to
+    by_record : (given : Record) → IsTextOf given graph → IsTrue right ↔ IsBarrierOf to given barrier odd
+    by_record RecordLong text = absurd text
+    by_record (RecordLine bytes) text = (
+      (λ on. subst (λ (x : List TextBond). IsBarrierIn (atoms_in (text_of bytes)) x barrier odd) text.bonds (subst (λ (x : List SkelAtom). IsBarrierIn x graph.bonds barrier odd) text.atoms (decides.0 on))),
+      (λ by. decides.1 (subst (λ (x : List SkelAtom). IsBarrierIn x graph.bonds barrier odd) (sym text.atoms) (subst (λ (x : List TextBond). IsBarrierIn (atoms_in (text_of bytes)) x barrier odd) (sym text.bonds) by))),
+    )
 
-pub refused_output : (to : Target) (given next : Record) (m : Molecule) (name : Span) (refusal : Refusal) (map : List AtomId) → IsReadAs given (Stands m name) → IsReadAs next (Refused refusal)
-    → IsMapFinding to given (Some next) map Output
-refused_output to given next m name refusal map is also = record { input = m; stands = is.stands; shown = (refusal, also to) }
-
-pub both_read : (to : Target) (given next : Record) (m n : Molecule) (name other : Span) (map : List AtomId) (v : Verdict) → IsReadAs given (Stands m name) → IsReadAs next (Stands n other)
-    → IsVerdict m n map v → IsMapFinding to given (Some next) map (Map v)
-both_read to given next m n name other map v is also compared =
-    record { input = m; output = n; input_stands = is.stands; output_stands = also.stands; is = compared }
+pub no_text : (given : Record) (skeleton : Option TextGraph) → skeleton ≡ None → IsTextKept given NoPlacement skeleton → ⊥
+no_text given skeleton is kept = gone (subst (λ (x : Option TextGraph). IsTextKept given NoPlacement x) is kept)
+  where
+    gone : IsTextKept given NoPlacement None → ⊥
+    gone h = h

@@ -1,6 +1,7 @@
 -- The findings of a check are one, and so is their text.
 use Rattle.std.proofs.Common.{arith, ◌≡◌, ◌∙◌, ℕ, suc, ◌+◌, ◌<◌, ◌≤◌, List, [], ◌∷◌, ◌++◌, length, Option, Some, None, Bool, true, false, refl, sym, ap, subst, inl, inr}
 use Rattle.std.specs.List.{list_all}
+use Rattle.std.specs.Prelude.{◌⊎◌}
 use Rattle.std.proofs.lemmas.List.{append_assoc, append-nil, length-append}
 use Rattle.mc_base.specs.declared.ids.AtomId.{AtomId}
 use Rattle.mc_base.specs.declared.refusal.Refusal.{Refusal}
@@ -10,9 +11,14 @@ use Rattle.mc_report.specs.declared.report_line.ReportLine.{ReportLine}
 use Rattle.mc_report.specs.declared.report_line.ReportLine.TheVariants.{Ok as OkLine, Refused as RefusedLine}
 use Rattle.mc_report.proofs.SpelledOnce.{spelled_once}
 use Rattle.smi_mean.specs.Lines.{text_of}
-use Rattle.smi_mean.proofs.Refusals.{one_molecule}
-use Rattle.mc_same.specs.Differences.{IsVerdict}
-use Rattle.mc_same.proofs.OneVerdict.{verdict_once}
+use Rattle.smi_graph.specs.declared.skel_atom.SkelAtom.{SkelAtom}
+use Rattle.smi_graph.specs.declared.text_bond.TextBond.{TextBond}
+use Rattle.smi_graph.specs.Candidates.{AreCandidates}
+use Rattle.smi_graph.specs.Rules.{atoms_in, text_bonds_in}
+use Rattle.smi_graph.specs.Skeletons.{TextGraph, IsSkeleton}
+use Rattle.smi_mean.proofs.PlacedBonds.{plain_molecule}
+use Rattle.mc_same.specs.Stands.{IsStandsVerdict}
+use Rattle.mc_same.proofs.OneVerdict.{stands_once, stands_of_text}
 use Rattle.mc_convert.specs.declared.formats.Formats.{Formats}
 use Rattle.mc_convert.specs.declared.formats.Target.{Target}
 use Rattle.mc_convert.specs.Records.{Record, Line, TooLong}
@@ -20,8 +26,9 @@ use Rattle.mc_convert.proofs.Answering.{not_shown}
 use Rattle.mc_convert.specs.declared.finding.Finding.{Finding}
 use Rattle.mc_convert.specs.declared.finding.Finding.TheVariants.{Map, Shown, Report, Missing, Input, Output, Refusal as NotShown}
 use Rattle.mc_convert.specs.Answers.{RecordStands}
+use Rattle.mc_convert.specs.Runs.{IsShown}
 use Rattle.mc_convert.specs.Checks.{first, Remaining, Leaves, FindsOne, Finds, is_extra, verdict_lines, extra_line, extra_text, at_first, IsCheckText, IsAllTrue}
-use Rattle.mc_convert.specs.Findings.{Says, Compare, IsMapFinding, IsRefusalFinding, IsFinding, is_true, verdict_line}
+use Rattle.mc_convert.specs.Findings.{Says, IsTextOf, HasCandidate, Compare, IsMapFinding, IsRefusalFinding, IsFinding, is_true, verdict_line}
 use Rattle.mc_convert.specs.Records.{records}
 
 -- a line says one thing of a record
@@ -30,23 +37,31 @@ says_once k None s t is also = absurd is
 says_once k (Some None) s t is also = absurd is
 says_once k (Some (Some text)) s t is also = spelled_once s t text is.0 also.0
 
--- a record stands for one molecule
-stands_once : (text : Record) (m n : Molecule) → RecordStands text m → RecordStands text n → m ≡ n
-stands_once TooLong m n is also = absurd is
-stands_once (Line bytes) m n is also = one_molecule (text_of bytes) m n is also
+-- a record without a candidate stands for one molecule
+plain_once : (given : Record) (m n : Molecule) → (HasCandidate given → ⊥) → RecordStands given m → RecordStands given n → m ≡ n
+plain_once TooLong m n plain is also = absurd is
+plain_once (Line bytes) m n plain is also = plain_molecule (text_of bytes) m n (λ k b at candidate. plain (k, b, at, candidate)) is.molecule also.molecule
+
+verdict_once : (original : Record) (s t : TextGraph) (n : Molecule) (map : List AtomId) (v w : Verdict) → IsTextOf original s → IsTextOf original t → IsStandsVerdict s n map v → IsStandsVerdict t n map w → v ≡ w
+verdict_once TooLong s t n map v w of_s of_t is also = absurd of_s
+verdict_once (Line bytes) s t n map v w of_s of_t is also =
+    stands_once s n map v w is (stands_of_text t s n map w (of_t.atoms ∙ sym of_s.atoms) (of_t.bonds ∙ sym of_s.bonds) of_t.limits.candidates of_s.limits.candidates also)
 
 -- two records compare in one way under a map
 compare_once : (original converted : Record) (map : List AtomId) (v w : Verdict) → Compare original converted map v → Compare original converted map w → v ≡ w
 compare_once original converted map v w a b =
-    let input : b.input ≡ a.input = stands_once original b.input a.input b.input_stands a.input_stands in
-    let output : b.output ≡ a.output = stands_once converted b.output a.output b.output_stands a.output_stands in
-    let half = subst (λ (m : Molecule). IsVerdict m b.output map w) input b.is in
-    verdict_once a.input a.output map v w a.is (subst (λ (m : Molecule). IsVerdict a.input m map w) output half)
+    let output : b.output ≡ a.output = plain_once converted b.output a.output b.plain b.output_stands a.output_stands in
+    verdict_once original a.skeleton b.skeleton a.output map v w a.text b.text a.is (subst (λ (m : Molecule). IsStandsVerdict b.skeleton m map w) output b.is)
 
 -- with no converted record left there is one finding
 none_left : (to : Target) (original : Record) (map : List AtomId) (f : Finding) → IsMapFinding to original None map f → f ≡ Missing
 none_left to original map Missing is = refl
 none_left to original map _ is = absurd is
+
+-- a converted record that is compared can be read, and says each bond's order
+not_output : (to : Target) (converted : Record) (m : Molecule) → RecordStands converted m → (HasCandidate converted → ⊥) → IsShown to converted ⊎ HasCandidate converted → ⊥
+not_output to converted m stands plain (inl shown) = not_shown to converted m stands shown
+not_output to converted m stands plain (inr has) = plain has
 
 map_once : (to : Target) (original : Record) (next : Option Record) (map : List AtomId) (f g : Finding) → IsMapFinding to original next map f → IsMapFinding to original next map g → f ≡ g
 map_once to original None map f g is also = none_left to original map f is ∙ sym (none_left to original map g also)
@@ -55,9 +70,9 @@ map_once to original (Some converted) map Input Output is also = absurd (not_sho
 map_once to original (Some converted) map Input (Map w) is also = absurd (not_shown to original also.input also.input_stands is)
 map_once to original (Some converted) map Output Input is also = absurd (not_shown to original is.input is.stands also)
 map_once to original (Some converted) map Output Output is also = refl
-map_once to original (Some converted) map Output (Map w) is also = absurd (not_shown to converted also.output also.output_stands is.shown)
+map_once to original (Some converted) map Output (Map w) is also = absurd (not_output to converted also.output also.output_stands also.plain is.shown)
 map_once to original (Some converted) map (Map v) Input is also = absurd (not_shown to original is.input is.input_stands also)
-map_once to original (Some converted) map (Map v) Output is also = absurd (not_shown to converted is.output is.output_stands also.shown)
+map_once to original (Some converted) map (Map v) Output is also = absurd (not_output to converted is.output is.output_stands is.plain also.shown)
 map_once to original (Some converted) map (Map v) (Map w) is also = ap Map (compare_once original converted map v w is also)
 map_once to original (Some converted) map Shown g is also = absurd is
 map_once to original (Some converted) map Report g is also = absurd is

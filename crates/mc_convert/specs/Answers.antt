@@ -8,7 +8,7 @@ use Rattle.mc_base.specs.Shown.{IsFirst}
 use Rattle.mc_mol.specs.Molecule.{Molecule}
 use Rattle.mc_mol.specs.Same.{Same}
 use Rattle.mc_report.specs.Report.{line_ends, ok_line, refused_line}
-use Rattle.smi_graph.specs.Skeletons.{IsNoBarrier}
+use Rattle.smi_mean.specs.Barriers.{IsTextBarrier}
 use Rattle.smi_mean.specs.Lines.{text_of}
 use Rattle.smi_mean.specs.Rules.{StandsAt, SmilesStands}
 use Rattle.smi_mean.specs.Written.{written_text, written_order}
@@ -63,10 +63,10 @@ pub record IsWritten (to : Target) (k : ℕ) (given : Record) (reply : Reply) : 
   pub same : Same input output (written_atoms to input)
   pub report : reply.report ≡ ok_line k (written_atoms to input) 0 0 0
 
--- the barriers of a record, each with its number of odd parts: none, since no atom of a record that is read needs a
--- placement yet
+-- the barriers of a record, each with its number of odd parts: those of the text of a line
 abbrev pub IsBarrierOf : Target → Record → List AtomId → ℕ → Type 0
-IsBarrierOf to given barrier odd = IsNoBarrier barrier odd
+IsBarrierOf to TooLong barrier odd = ⊥
+IsBarrierOf to (Line text) barrier odd = IsTextBarrier (text_of text) barrier odd
 
 -- A record shows a refusal: of kind and place there is one, of barriers there may be several.
 abbrev pub Shows : Target → Record → Refusal → Type 0

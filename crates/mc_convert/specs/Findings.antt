@@ -1,6 +1,8 @@
 -- What is found for one original, by what the report says of it and the converted record that is next (this project's own).
-use Rattle.std.specs.Prelude.{◌≡◌, ◌⊎◌, ◌↔◌, ⊤, ℕ, List, [], ◌∷◌, ◌++◌, Bool, true, false, Option, Some, None, codes, decimal, ◌==◌, if◌then◌else◌}
+use Rattle.std.specs.Prelude.{◌≡◌, ◌⊎◌, ◌↔◌, ⊤, ℕ, List, [], ◌∷◌, ◌++◌, Bool, true, false, Option, Some, None, slice_get, codes, decimal, ◌==◌, if◌then◌else◌}
 use Rattle.mc_base.specs.declared.ids.AtomId.{AtomId}
+use Rattle.mc_base.specs.declared.kind.Kind.{Kind}
+use Rattle.mc_base.specs.declared.kind.Kind.TheVariants.{NoPlacement}
 use Rattle.mc_base.specs.declared.refusal.Refusal.{Refusal}
 use Rattle.mc_base.specs.declared.span.Span.{Span}
 use Rattle.mc_base.specs.declared.verdict.Verdict as verdict
@@ -9,8 +11,13 @@ use Rattle.mc_mol.specs.Molecule.{Molecule}
 use Rattle.mc_report.specs.declared.report_line.ReportLine.{ReportLine}
 use Rattle.mc_report.specs.declared.report_line.ReportLine.TheVariants.{Ok as OkLine, Refused as RefusedLine}
 use Rattle.mc_report.specs.Grammar.{Spells, number_of}
+use Rattle.smi_graph.specs.declared.text_bond.TextBond.{TextBond}
+use Rattle.smi_graph.specs.Candidates.{IsCandidate}
+use Rattle.smi_graph.specs.Rules.{atoms_in, text_bonds_in}
+use Rattle.smi_graph.specs.Skeletons.{TextGraph, IsSkeleton}
+use Rattle.smi_mean.specs.Lines.{text_of}
 use Rattle.smi_mean.specs.Sound.{IsSound}
-use Rattle.mc_same.specs.Differences.{IsVerdict}
+use Rattle.mc_same.specs.Stands.{IsStandsVerdict}
 use Rattle.mc_convert.specs.declared.formats.Target.{Target}
 use Rattle.mc_convert.specs.declared.records.Passed.{Passed}
 use Rattle.mc_convert.specs.declared.records.Passed.TheVariants.{Line, TooLong}
@@ -44,19 +51,33 @@ pub record SaysRefused (k : ℕ) (line : Option (Option (List ℕ))) (P : Refusa
   pub says : Says k line (RefusedLine k refusal)
   pub holds : P refusal
 
--- the original can be read, and the converted record can't
+-- the skeleton of a record's text
+abbrev pub IsTextOf : Record → TextGraph → Type 0
+IsTextOf RecordLong skeleton = ⊥
+IsTextOf (RecordLine text) skeleton = IsSkeleton (text_of text) skeleton
+
+-- a bond of a record's text is single or double, and the text doesn't say which
+abbrev pub HasCandidate : Record → Type 0
+HasCandidate RecordLong = ⊥
+HasCandidate (RecordLine text) = (k : ℕ) × (b : TextBond) × (slice_get (text_bonds_in (text_of text)) k ≡ Some b) × IsCandidate (atoms_in (text_of text)) (text_bonds_in (text_of text)) b
+
+-- the original can be read, and the converted record can't, or has a bond that may be single or double
 pub record IsOutputShown (to : Target) (original converted : Record) : Type 0 where
   pub input : Molecule
   pub stands : RecordStands original input
-  pub shown : IsShown to converted
+  pub shown : IsShown to converted ⊎ HasCandidate converted
 
--- two records stand for molecules that compare so under a map
+-- An original's text and the one molecule of a converted record compare so under a map: the original stands for any of its
+-- molecules.
 pub record Compare (original converted : Record) (map : List AtomId) (v : verdict.Verdict) : Type 0 where
+  pub skeleton : TextGraph
   pub input : Molecule
   pub output : Molecule
   pub input_stands : RecordStands original input
+  pub text : IsTextOf original skeleton
   pub output_stands : RecordStands converted output
-  pub is : IsVerdict input output map v
+  pub plain : HasCandidate converted → ⊥
+  pub is : IsStandsVerdict skeleton output map v
 
 -- what is found of an original that is said to be written under a map, with the converted record that is next
 abbrev pub IsMapFinding : Target → Record → Option Record → List AtomId → Finding → Type 0
@@ -71,6 +92,9 @@ abbrev pub IsRefusalFinding : Target → Record → Refusal → Finding → Type
 IsRefusalFinding to original refusal Shown = Shows to original refusal
 IsRefusalFinding to original refusal NotShown = Shows to original refusal → ⊥
 IsRefusalFinding to original refusal finding = ⊥
+
+abbrev pub shown_finding : Bool → Finding
+shown_finding shows = if shows then Shown else NotShown
 
 -- what is found of original k
 abbrev pub IsFinding : Target → ℕ → Record → Option (Option (List ℕ)) → Option Record → Finding → Type 0
@@ -131,16 +155,28 @@ abbrev pub NameStands : Record → Span → Type 0
 NameStands RecordLong name = ⊥
 NameStands (RecordLine text) name = IsNameAt text name
 
--- a record is read: it stands for this molecule, which is sound, and its name stands here
-pub record IsRead (given : Record) (m : Molecule) (name : Span) : Type 0 where
+-- a record is read: it stands for this molecule, which is sound, its text has this skeleton, and its name stands here
+pub record IsRead (given : Record) (m : Molecule) (skeleton : TextGraph) (name : Span) : Type 0 where
   pub stands : RecordStands given m
   pub sound : IsSound m
+  pub text : IsTextOf given skeleton
   pub name_is : NameStands given name
 
--- what a record is read as, whatever it is to be written as
+-- where a record's atoms have no placement, the skeleton of its text is kept
+abbrev pub IsTextKept : Record → Kind → Option TextGraph → Type 0
+IsTextKept given NoPlacement None = ⊥
+IsTextKept given NoPlacement (Some skeleton) = IsTextOf given skeleton
+IsTextKept given kind skeleton = ⊤
+
+-- a record is refused, whatever it is to be written as
+pub record IsReadRefused (given : Record) (refusal : Refusal) (skeleton : Option TextGraph) : Type 0 where
+  pub shows : (to : Target) → Shows to given refusal
+  pub text : IsTextKept given refusal.kind skeleton
+
+-- what a record is read as
 abbrev pub IsReadAs : Record → RecordRead → Type 0
-IsReadAs given (Stands m name) = IsRead given m name
-IsReadAs given (Refused refusal) = (to : Target) → Shows to given refusal
+IsReadAs given (Stands m skeleton name) = IsRead given m skeleton name
+IsReadAs given (Refused refusal skeleton) = IsReadRefused given refusal skeleton
 
 abbrev pub AreReadAs : Option Record → Option RecordRead → Type 0
 AreReadAs None None = ⊤

@@ -94,11 +94,11 @@ pub fn answer_record(
     ensures refused { IfOk result (λ r. IsTrue r.refused ↔ IsShown to (record_of given.entry)) }
 {
     match read_record(alloc, given)? {
-        RecordRead::Stands { mol, name } => {
+        RecordRead::Stands { mol, name, .. } => {
             let answer = accepted(alloc, k, &mol, name_of(given, name), to)?;
             Ok(answer)
         }
-        RecordRead::Refused(refusal) => {
+        RecordRead::Refused(refusal, _) => {
             let answer = refused(alloc, k, &refusal)?;
             Ok(answer)
         }

@@ -48,7 +48,10 @@ fn find_next<S: Source>(
             let finding = map_finding(alloc, &original, converted, map.as_slice())?;
             Ok(finding)
         }
-        Some(ReportLine::Refused { refusal, .. }) => Ok(refusal_finding(&original, &refusal)),
+        Some(ReportLine::Refused { refusal, .. }) => {
+            let finding = refusal_finding(alloc, &original, &refusal)?;
+            Ok(finding)
+        }
         None => Ok(Finding::Report),
     }
 }

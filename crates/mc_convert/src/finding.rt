@@ -1,14 +1,20 @@
-ghost use Rattle.std.specs.Prelude.{◌≡◌, ◌++◌, ◌↔◌, Option, Some, OnOk, IfOk, IsTrue, decimal};
+ghost use Rattle.std.specs.Prelude.{◌≡◌, ◌++◌, ◌↔◌, ◌<◌, ℕ, Option, Some, OnOk, IfOk, IsTrue, true, false, length, decimal};
 ghost use Rattle.mc_base.specs.Shown.{HasReason};
+ghost use Rattle.mc_base.specs.declared.span.Span.{Span as Place};
+ghost use Rattle.mc_mol.specs.Molecule.{Molecule};
 ghost use Rattle.mc_convert.specs.Answers.{IsBarrierOf, Shows};
 ghost use Rattle.mc_convert.specs.Records.{Record};
 ghost use Rattle.mc_convert.specs.declared.formats.Target.{Target};
-ghost use Rattle.mc_convert.specs.Findings.{is_true, difference_text, finding_text, verdict_line, IsMapFinding, IsReadAs, IsRefusalFinding, AreReadAs};
+ghost use Rattle.mc_convert.specs.Findings.{is_true, difference_text, finding_text, verdict_line, shown_finding, IsMapFinding, IsRead, IsReadAs, IsReadRefused, IsTextKept, IsRefusalFinding, AreReadAs};
+ghost use Rattle.smi_graph.specs.Candidates.{marked};
 
 use crate::record_read::RecordRead;
-use mc_base::{AtomId, Kind, NoMemory, Refusal, Text, Verdict};
+use mc_base::{AtomId, BondId, Kind, NoMemory, Refusal, Text, Verdict};
 use mc_digits::put_number;
-use mc_same::check_map;
+use mc_mol::Mol;
+use mc_same::check_stands;
+use smi_graph::Skeleton;
+use smi_mean::is_barrier_in;
 use std::alloc::Global;
 
 /// What is found for one original record.
@@ -122,37 +128,97 @@ fn compare(
         → IfOk result (IsMapFinding to given (Some next) map.now) }
 {
     match (original, converted) {
-        (RecordRead::Refused(_), _) => Ok(Finding::Input),
-        (RecordRead::Stands { .. }, RecordRead::Refused(_)) => Ok(Finding::Output),
-        (RecordRead::Stands { mol: input, .. }, RecordRead::Stands { mol: output, .. }) => {
-            let verdict = check_map(alloc, input, output, map)?;
-            Ok(Finding::Map(verdict))
+        (RecordRead::Refused(..), _) => Ok(Finding::Input),
+        (RecordRead::Stands { .. }, RecordRead::Refused(..)) => Ok(Finding::Output),
+        (
+            RecordRead::Stands {
+                skeleton: input,
+                ..
+            },
+            RecordRead::Stands {
+                mol: output,
+                skeleton: written,
+                ..
+            },
+        ) => {
+            let finding = compare_text(alloc, input, output, written, map)?;
+            Ok(finding)
         }
     }
 }
 
+/// The same of a text and a molecule. A written text says the order of each bond.
+fn compare_text(
+    alloc: Global,
+    input: &Skeleton,
+    output: &Mol,
+    written: &Skeleton,
+    map: &[AtomId],
+) -> Result<Finding, NoMemory>
+    ensures { (to : Target) (given next : Record) (m : Molecule) (name other : Place) → IsRead given m input.now name → IsRead next output.now written.now other
+        → IfOk result (IsMapFinding to given (Some next) map.now) }
+{
+    if has_candidate(written) {
+        return Ok(Finding::Output);
+    }
+    let verdict = check_stands(alloc, input, output, map)?;
+    Ok(Finding::Map(verdict))
+}
+
+/// Whether some bond is single or double, and the text doesn't say which.
+fn has_candidate(skeleton: &Skeleton) -> bool
+    ensures yes { result ≡ true → (k : ℕ) × (k < length skeleton.now.bonds) × (marked skeleton.now.candidates k ≡ true) }
+    ensures no { result ≡ false → (k : ℕ) → k < length skeleton.now.bonds → marked skeleton.now.candidates k ≡ false }
+{
+    for k in 0..skeleton.bond_count() {
+        if skeleton.is_candidate(BondId(k)) {
+            return true;
+        }
+    }
+    false
+}
+
 /// What is found of an original that is said to show a refusal.
-pub fn refusal_finding(original: &RecordRead, refusal: &Refusal) -> Finding
-    ensures { (to : Target) (given : Record) → IsReadAs given original.now → IsRefusalFinding to given refusal.now result }
+pub fn refusal_finding(
+    alloc: Global,
+    original: &RecordRead,
+    refusal: &Refusal,
+) -> Result<Finding, NoMemory>
+    ensures { (to : Target) (given : Record) → IsReadAs given original.now → IfOk result (IsRefusalFinding to given refusal.now) }
 {
     match original {
-        RecordRead::Refused(shown) => {
-            if shows_too(shown, refusal) {
-                Finding::Shown
-            } else {
-                Finding::Refusal
-            }
+        RecordRead::Refused(shown, skeleton) => {
+            let shows = shows_too(alloc, shown, skeleton, refusal)?;
+            Ok(shown_finding(shows))
         }
-        RecordRead::Stands { .. } => Finding::Refusal,
+        RecordRead::Stands { .. } => Ok(Finding::Refusal),
+    }
+}
+
+fn shown_finding(shows: bool) -> Finding
+    ensures { result ≡ shown_finding shows }
+{
+    if shows {
+        Finding::Shown
+    } else {
+        Finding::Refusal
     }
 }
 
 /// Whether a record that shows one refusal shows another: kind and place are its own, and a barrier may be any.
-#[tactic(auto, using(crate::proofs::SameRefusal::not_shown))]
-fn shows_too(shown: &Refusal, said: &Refusal) -> bool
-    ensures { (to : Target) (given : Record) → Shows to given shown.now → IsTrue result ↔ Shows to given said.now }
+fn shows_too(
+    alloc: Global,
+    shown: &Refusal,
+    skeleton: &Option<Skeleton>,
+    said: &Refusal,
+) -> Result<bool, NoMemory>
+    ensures { (to : Target) (given : Record) → IsReadRefused given shown.now skeleton.now → IfOk result (λ shows. IsTrue shows ↔ Shows to given said.now) }
 {
-    are_at_one_place(shown, said) && has_reason(said)
+    if !are_at_one_place(shown, said) {
+        return Ok(false);
+    }
+    let has_reason = has_reason(alloc, skeleton, said)?;
+    Ok(has_reason)
 }
 
 /// Whether two refusals are of one kind at one place.
@@ -163,12 +229,37 @@ fn are_at_one_place(first: &Refusal, second: &Refusal) -> bool
 }
 
 /// Whether what is said beside kind and place is right.
-fn has_reason(refusal: &Refusal) -> bool
-    ensures { (to : Target) (given : Record) → IsTrue result ↔ HasReason (IsBarrierOf to given) refusal.now.kind refusal.now.barrier refusal.now.odd }
+fn has_reason(
+    alloc: Global,
+    skeleton: &Option<Skeleton>,
+    refusal: &Refusal,
+) -> Result<bool, NoMemory>
+    ensures { (to : Target) (given : Record) → IsTextKept given refusal.now.kind skeleton.now
+        → IfOk result (λ right. IsTrue right ↔ HasReason (IsBarrierOf to given) refusal.now.kind refusal.now.barrier refusal.now.odd) }
 {
     match refusal.kind {
-        // no record that is read needs a placement yet
-        Kind::NoPlacement => false,
-        _ => refusal.barrier.len() == 0 && refusal.odd == 0,
+        Kind::NoPlacement => {
+            let right = is_barrier(alloc, skeleton, refusal)?;
+            Ok(right)
+        }
+        _ => Ok(refusal.barrier.len() == 0 && refusal.odd == 0),
+    }
+}
+
+/// Whether a refusal names a barrier of a text.
+fn is_barrier(
+    alloc: Global,
+    skeleton: &Option<Skeleton>,
+    refusal: &Refusal,
+) -> Result<bool, NoMemory>
+    ensures { (to : Target) (given : Record) → IsTextKept given Kind.NoPlacement skeleton.now
+        → IfOk result (λ right. IsTrue right ↔ IsBarrierOf to given refusal.now.barrier refusal.now.odd) }
+{
+    match skeleton {
+        Some(skeleton) => {
+            let right = is_barrier_in(alloc, skeleton, refusal.barrier.as_slice(), refusal.odd)?;
+            Ok(right)
+        }
+        None => Ok(false),
     }
 }

@@ -1,24 +1,31 @@
 ghost use Rattle.std.specs.Prelude.{◌≡◌, ◌≤◌, IfOk};
 ghost use Rattle.mc_convert.specs.Records.{IsGiven, IsGivenLine, Line, name_in, record_of};
+ghost use Rattle.mc_convert.specs.declared.formats.Target.{Target};
+ghost use Rattle.mc_convert.specs.Answers.{Shows};
 ghost use Rattle.mc_convert.specs.Findings.{IsReadAs, NameStands};
 
 use crate::given::Given;
 use mc_base::{Kind, NoMemory, Refusal, Span, Stop};
 use mc_mol::Mol;
-use smi_mean::read_smiles;
+use smi_graph::Skeleton;
+use smi_mean::{read_line_skeleton, read_named};
 use std::alloc::Global;
 
 /// A record as it is read.
 #[derive(Drop)]
 pub enum RecordRead {
-    /// it stands for this molecule, and its name stands here
-    Stands { mol: Mol, name: Span },
-    /// it shows this refusal
-    Refused(Refusal),
+    /// it stands for this molecule, its text has this skeleton, and its name stands here
+    Stands {
+        mol: Mol,
+        skeleton: Skeleton,
+        name: Span,
+    },
+    /// it shows this refusal; where its atoms have no placement, the skeleton of its text is kept
+    Refused(Refusal, Option<Skeleton>),
 }
 
 /// Reads a record.
-#[tactic(auto, using(crate::proofs::Answering::long_shown))]
+#[tactic(auto, using(crate::proofs::Answering::long_read))]
 pub fn read_record(alloc: Global, given: Given<'_>) -> Result<RecordRead, NoMemory>
     requires { IsGiven given }
     ensures { IfOk result (IsReadAs (record_of given.entry)) }
@@ -28,7 +35,7 @@ pub fn read_record(alloc: Global, given: Given<'_>) -> Result<RecordRead, NoMemo
             let read = read_line(alloc, text)?;
             Ok(read)
         }
-        Given::TooLong => Ok(RecordRead::Refused(Refusal::at(alloc, Kind::LineTooLong, 1))),
+        Given::TooLong => Ok(RecordRead::Refused(Refusal::at(alloc, Kind::LineTooLong, 1), None)),
     }
 }
 
@@ -37,13 +44,46 @@ fn read_line(alloc: Global, text: &[u8]) -> Result<RecordRead, NoMemory>
     requires { IsGivenLine text.now }
     ensures { IfOk result (IsReadAs (Line text.now)) }
 {
-    match read_smiles(alloc, text) {
+    match read_named(alloc, text) {
         Ok(read) => Ok(RecordRead::Stands {
             mol: read.mol,
+            skeleton: read.skeleton,
             name: read.name,
         }),
-        Err(Stop::Refused(refusal)) => Ok(RecordRead::Refused(refusal)),
+        Err(Stop::Refused(refusal)) => {
+            let read = refused(alloc, text, refusal)?;
+            Ok(read)
+        }
         Err(Stop::NoMemory) => Err(NoMemory),
+    }
+}
+
+/// A line of SMILES that is refused.
+fn refused(alloc: Global, text: &[u8], refusal: Refusal) -> Result<RecordRead, NoMemory>
+    requires given { IsGivenLine text.now }
+    requires shows { (to : Target) → Shows to (Line text.now) refusal }
+    ensures { IfOk result (IsReadAs (Line text.now)) }
+{
+    match refusal.kind {
+        Kind::NoPlacement => {
+            let read = unplaced(alloc, text, refusal)?;
+            Ok(read)
+        }
+        _ => Ok(RecordRead::Refused(refusal, None)),
+    }
+}
+
+/// A line of SMILES whose atoms have no placement.
+fn unplaced(alloc: Global, text: &[u8], refusal: Refusal) -> Result<RecordRead, NoMemory>
+    requires given { IsGivenLine text.now }
+    requires shows { (to : Target) → Shows to (Line text.now) refusal }
+    requires kind { refusal.kind ≡ Kind.NoPlacement }
+    ensures { IfOk result (IsReadAs (Line text.now)) }
+{
+    match read_line_skeleton(alloc, text) {
+        Ok(skeleton) => Ok(RecordRead::Refused(refusal, Some(skeleton))),
+        Err(Stop::NoMemory) => Err(NoMemory),
+        Err(Stop::Refused(_)) => unreachable!(),
     }
 }
 

@@ -180,7 +180,7 @@ fn wrong_tokens(rt: HostRuntime) -> Result<(), Fail> {
 }
 
 #[test]
-fn lower_case(rt: HostRuntime) -> Result<(), Fail> {
+fn lower_case_without_a_need(rt: HostRuntime) -> Result<(), Fail> {
     are_written(
         &rt,
         &[
@@ -190,16 +190,96 @@ fn lower_case(rt: HostRuntime) -> Result<(), Fail> {
             ("[cH2]1:[cH2]:s:1", "C1CS1", "1,2,3"),
             ("[se]1[se][se]1", "[Se]1[Se][Se]1", "1,2,3"),
         ],
+    )
+}
+
+// Texts with one placement.
+#[test]
+fn placed_double_bonds(rt: HostRuntime) -> Result<(), Fail> {
+    are_written(
+        &rt,
+        &[
+            ("[nH]1cccc1", "N1C=CC=C1", "1,2,3,4,5"),
+            ("o1cccc1", "O1C=CC=C1", "1,2,3,4,5"),
+            ("c1ccoc1", "C=1C=COC1", "1,2,3,4,5"),
+            ("[se]1cccc1", "[Se]1C=CC=C1", "1,2,3,4,5"),
+            ("c1:c:o:c:c:1", "C1=COC=C1", "1,2,3,4,5"),
+        ],
     )?;
     are_refused(
         &rt,
         &[
             ("C:C", "AromaticBond place=1"),
-            // an atom that needs a double bond has none placed yet
-            ("c1ccccc1", "NotBuilt place=1"),
-            ("[se]1cccc1", "NotBuilt place=1"),
+            ("c1cccc1", "NoPlacement barrier= odd=1"),
+            ("c12c3oc1oc2o3", "NoPlacement barrier=1 odd=3"),
+            ("cc", "NoPlacement barrier= odd=2"),
+            ("[nH2]", "NoPlacement barrier= odd=1"),
         ],
     )
+}
+
+/// The record is written as one of two texts, its atoms in their order.
+fn is_written_as_either(
+    rt: &(impl Abort + AllocGlobal),
+    record: &str,
+    texts: &[&str],
+    map: &str,
+) -> Result<(), Fail> {
+    let alloc = rt.alloc();
+    let calls = Calls {
+        piece: 1000,
+        failing_reads: Vec::new(alloc),
+        failing_writes: Vec::new(alloc),
+    };
+    let (status, sink) = ran(alloc, &CONVERT, &[record.as_bytes()], calls)?;
+    let report = joined(alloc, &["1 ok map=", map, " idle=0 ring=0 data=0\n"])?;
+    assert!(rt; status == Status::Done);
+    assert_eq!(rt; sink.bytes(1), report.as_slice());
+    let mut found = false;
+    for text in texts {
+        let line = joined(alloc, &[text, "\n"])?;
+        found |= sink.bytes(0) == line.as_slice();
+    }
+    assert!(rt; found);
+    Ok(())
+}
+
+#[test]
+fn two_placements(rt: HostRuntime) -> Result<(), Fail> {
+    is_written_as_either(
+        &rt,
+        "c1ccccc1",
+        &["C1=CC=CC=C1", "C=1C=CC=CC1"],
+        "1,2,3,4,5,6",
+    )?;
+    is_written_as_either(
+        &rt,
+        "c1ccccc1c1ccccc1",
+        &[
+            "C1=CC=CC=C1C1=CC=CC=C1",
+            "C1=CC=CC=C1C=1C=CC=CC1",
+            "C=1C=CC=CC1C1=CC=CC=C1",
+            "C=1C=CC=CC1C=1C=CC=CC1",
+        ],
+        "1,2,3,4,5,6,7,8,9,10,11,12",
+    )
+}
+
+// Ninety-eight rings that can be placed in two ways each, and one that can't be.
+#[test]
+fn a_ring_behind_many(rt: HostRuntime) -> Result<(), Fail> {
+    let alloc = rt.alloc();
+    let rings = "c1ccccc1".repeat(alloc, 98)?;
+    let text = joined(alloc, &[&rings, "c1cccc1"])?;
+    let calls = Calls {
+        piece: 1000,
+        failing_reads: Vec::new(alloc),
+        failing_writes: Vec::new(alloc),
+    };
+    let (status, sink) = ran(alloc, &CONVERT, &[&text], calls)?;
+    assert!(&rt; status == Status::SomeRefused);
+    assert!(&rt; sink.bytes(1).starts_with(b"1 refused NoPlacement barrier="));
+    Ok(())
 }
 
 #[test]

@@ -114,6 +114,96 @@ fn maps(rt: HostRuntime) -> Result<(), Fail> {
     )
 }
 
+// An original in lower case stands for each of its placements.
+#[test]
+fn placements(rt: HostRuntime) -> Result<(), Fail> {
+    let six = "1,2,3,4,5,6";
+    maps_are_said(
+        &rt,
+        &[
+            ("c1ccccc1", "C1=CC=CC=C1", six, "true"),
+            ("c1ccccc1", "C=1C=CC=CC1", six, "true"),
+            ("c1ccccc1", "C1=CC=CC=C1", "2,3,4,5,6,1", "true"),
+            // two atoms that need a double bond have none
+            ("c1ccccc1", "C1=CC=C[CH][CH]1", six, "false bond 4"),
+            // an order that no placement gives
+            (
+                "c1ccccc1",
+                "[CH]1#[CH][CH]=[CH][CH]=[CH]1",
+                six,
+                "false bond 1",
+            ),
+            // an atom that needs none
+            ("o1cccc1", "O1C=CC=C1", "1,2,3,4,5", "true"),
+            // an atom without a bond that needs one
+            ("[nH2]", "[NH2]", "1", "false input"),
+            // a written text says the order of each bond
+            ("c1ccccc1", "c1ccccc1", six, "false output"),
+            ("o1oo1", "o1oo1", "1,2,3", "false output"),
+            ("o1oo1", "O1OO1", "1,2,3", "true"),
+        ],
+    )
+}
+
+#[test]
+fn barriers(rt: HostRuntime) -> Result<(), Fail> {
+    are_said(
+        &rt,
+        &[
+            (
+                "c1cccc1",
+                "",
+                "1 refused NoPlacement barrier= odd=1\n",
+                "1 true\n",
+            ),
+            (
+                "c1cccc1",
+                "",
+                "1 refused NoPlacement barrier=1 odd=1\n",
+                "1 false refusal\n",
+            ),
+            (
+                "c12c3oc1oc2o3",
+                "",
+                "1 refused NoPlacement barrier=1 odd=3\n",
+                "1 true\n",
+            ),
+            (
+                "c12c3oc1oc2o3",
+                "",
+                "1 refused NoPlacement barrier=1 odd=4\n",
+                "1 false refusal\n",
+            ),
+            // an atom that needs no double bond, and one that isn't there
+            (
+                "c12c3oc1oc2o3",
+                "",
+                "1 refused NoPlacement barrier=1,3 odd=3\n",
+                "1 false refusal\n",
+            ),
+            (
+                "c1cccc1",
+                "",
+                "1 refused NoPlacement barrier=6 odd=2\n",
+                "1 false refusal\n",
+            ),
+            (
+                "c1ccccc1",
+                "",
+                "1 refused NoPlacement barrier= odd=1\n",
+                "1 false refusal\n",
+            ),
+            // any barrier will do: of two rings with a barrier each, atoms of one alone
+            (
+                "c1cccc1.c1cccc1",
+                "",
+                "1 refused NoPlacement barrier= odd=2\n",
+                "1 true\n",
+            ),
+        ],
+    )
+}
+
 #[test]
 fn refusals(rt: HostRuntime) -> Result<(), Fail> {
     are_said(

@@ -22,6 +22,6 @@ pub returns-in-Some-Refused-clause-finds : goal.returns-in-Some-Refused-clause-f
 returns-in-Some-Refused-clause-finds g c given is =
     let said = subst (λ (x : Option ReportLine). SaidNext c.args.k (ahead c.args.readers.now.report (g.S.Source.inputs c.args.source.now 2).left) (ahead c.read_said.new.self.report (g.S.Source.inputs c.read_said.new.source 2).left) x)
     (c.in-Some-Refused.is ∙ ap (λ (x : ReportLine). Some x) c.in-Some-Refused.field-0-is) c.in_ok-map.ensures.says in
-    refused_found c.args.to c.args.k c.in-Some-Refused.field-0-0 given _ _ _ _ c.in-Some-Refused.refusal c.refusal_finding.result said
+    refused_found c.args.to c.args.k c.in-Some-Refused.field-0-0 given _ _ _ _ c.in-Some-Refused.refusal c.in_ok-finding-in-Some-Refused.finding said
     (ahead_kept c.args.readers.now.converted c.read_said.new.self.converted _ _ c.in_ok-map.ensures.kept.1 (ap (λ (i : Input). i.left) (c.in_ok-map.ensures.others 1 (λ e. omega arith))))
-    (c.refusal_finding.ensures c.args.to given is)
+    (c.in_ok-finding-in-Some-Refused.ensures c.args.to given is)
