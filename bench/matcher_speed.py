@@ -18,7 +18,7 @@ from test_crate import built, counted, home, write
 
 CRATES = ["mc_base", "match_barrier", "match_blossom"]
 NAME = "matcher_speed"
-SHAPES = ["rings", "ladder", "nested", "descending", "arms", "hubs", "random", "dense"]
+SHAPES = ["rings", "ladder", "nested", "descending", "deep", "arms", "hubs", "random", "dense"]
 LIB = "//! Solves graphs of several shapes, as sizes double.\n#![tactic(auto)]\n\n#[cfg(test)]\nmod tests;\n"
 INVARIANT = """use Rattle.std.proofs.Common.{◌≡◌}
 use Rattle.matcher_speed.proofs.tests.solve_times.Given as goal
@@ -137,27 +137,53 @@ fn outer_node(place: u32, pairs: u32) -> u32 {
 }
 
 /// A way up from a free node, at whose end a triangle is contracted; then cycles close from above down, each with a base
-/// of its own, and only the last leads to the other free node.
+/// of its own.
+fn closing_cycles(graph: &mut Graph, pairs: u32) -> Result<(), Fail> {
+    for k in 0..pairs {
+        let inner = k.saturating_mul(4);
+        join(graph, inner, inner.saturating_add(1))?;
+        join(graph, inner.saturating_add(2), inner.saturating_add(3))?;
+    }
+    for k in 0..pairs {
+        let inner = k.saturating_mul(4);
+        join(graph, outer_node(k, pairs), inner)?;
+        if k > 0 {
+            join(graph, outer_node(k.saturating_sub(1), pairs), inner.saturating_add(3))?;
+            join(graph, inner, inner.saturating_add(2))?;
+        }
+    }
+    join(graph, outer_node(pairs.saturating_sub(1), pairs), outer_node(pairs, pairs))
+}
+
+/// Only the last of these cycles leads to the other free node.
 #[test]
 fn descending(rt: HostRuntime) -> Result<(), Fail> {
     for nodes in SIZES {
         let mut graph = Graph::new(rt.alloc(), nodes)?;
         let pairs = nodes.saturating_sub(2) / 4;
-        for k in 0..pairs {
-            let inner = k.saturating_mul(4);
-            join(&mut graph, inner, inner.saturating_add(1))?;
-            join(&mut graph, inner.saturating_add(2), inner.saturating_add(3))?;
-        }
-        for k in 0..pairs {
-            let inner = k.saturating_mul(4);
-            join(&mut graph, outer_node(k, pairs), inner)?;
-            if k > 0 {
-                join(&mut graph, outer_node(k.saturating_sub(1), pairs), inner.saturating_add(3))?;
-                join(&mut graph, inner, inner.saturating_add(2))?;
-            }
-        }
-        join(&mut graph, outer_node(pairs.saturating_sub(1), pairs), outer_node(pairs, pairs))?;
+        closing_cycles(&mut graph, pairs)?;
         join(&mut graph, 0, pairs.saturating_mul(4).saturating_add(1))?;
+        measure(&rt, &graph)?;
+    }
+    Ok(())
+}
+
+/// The innermost of these cycles leads to the other free node, by a way so long that all are contracted before its end.
+#[test]
+fn deep(rt: HostRuntime) -> Result<(), Fail> {
+    for nodes in SIZES {
+        let mut graph = Graph::new(rt.alloc(), nodes)?;
+        let pairs = nodes.saturating_sub(6) / 6;
+        closing_cycles(&mut graph, pairs)?;
+        let free = pairs.saturating_mul(4).saturating_add(1);
+        let mut last = pairs.saturating_mul(4).saturating_sub(4);
+        for k in 0..pairs.saturating_add(2) {
+            let inner = free.saturating_add(1).saturating_add(k.saturating_mul(2));
+            join(&mut graph, inner, inner.saturating_add(1))?;
+            join(&mut graph, last, inner)?;
+            last = inner.saturating_add(1);
+        }
+        join(&mut graph, last, free)?;
         measure(&rt, &graph)?;
     }
     Ok(())

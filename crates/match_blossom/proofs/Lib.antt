@@ -21,3 +21,4 @@ pub mod Releasing
 pub mod Scanning
 pub mod Queued
 pub mod Shortening
+pub mod Noted

@@ -9,3 +9,4 @@ pub mod Shortened
 pub mod Answer
 pub mod Inner
 pub mod Lending
+pub mod Ends

@@ -65,6 +65,14 @@ impl Blossoms {
         self.order[v as usize]
     }
 
+    /// Whether a node has got an odd number, as inner nodes have.
+    pub(crate) fn was_inner(&self, v: u32) -> bool {
+        match self.order.as_slice().get(v as usize) {
+            None => false,
+            Some(number) => *number % 2 == 1,
+        }
+    }
+
     /// Expands the cycle of the nodes.
     pub(crate) fn release(&mut self, nodes: &[u32])
         requires { All (λ v. v < length self.old.cycle_base.items) nodes.now }

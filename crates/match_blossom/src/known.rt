@@ -1,3 +1,7 @@
+ghost use Rattle.std.specs.Prelude.{◌≡◌, IfOk};
+ghost use Rattle.match_blossom.specs.Ends.{AreOwn};
+
+use crate::ends::Ends;
 use mc_base::NoMemory;
 use std::alloc::Global;
 
@@ -8,50 +12,38 @@ pub(crate) struct Edge {
     pub(crate) to: u32,
 }
 
-/// What is remembered of edges between blossoms, so that lifting need not seek them: for each base the node at which the
-/// matched edge of its blossom ends, and for each contracted cycle the edge that closed it, the latest last. None of it
-/// is taken on trust: an edge is looked at before it is used.
+/// What is remembered of edges, so that lifting need not seek them: where the matched edges of blossoms end, and for each
+/// contracted cycle the edge that closed it, the latest last. An edge is looked at before it is used.
 #[derive(Drop)]
 pub(crate) struct KnownEdges {
-    ends: Vec<u32>,
+    pub(crate) ends: Ends,
     closing: Vec<Edge>,
     count: usize,
 }
 
 impl KnownEdges {
     /// Room for graphs of at most so many nodes.
-    pub(crate) fn reserve(alloc: Global, nodes: u32) -> Result<KnownEdges, NoMemory> {
+    pub(crate) fn reserve(alloc: Global, nodes: u32) -> Result<KnownEdges, NoMemory>
+        ensures { IfOk result (λ known. AreOwn nodes known.ends.node.items known.ends.below.items) }
+    {
         Ok(KnownEdges {
-            ends: vec![in alloc; 0u32; nodes as usize]?,
+            ends: Ends::reserve(alloc, nodes)?,
             closing: vec![in alloc; Edge { from: 0, to: 0 }; nodes as usize]?,
             count: 0,
         })
     }
 
     /// No cycle is contracted.
-    pub(crate) fn begin(&mut self) {
+    pub(crate) fn begin(&mut self)
+        ensures { self.new.ends ≡ self.old.ends }
+    {
         self.count = 0;
     }
 
-    /// The matched edge of a base's blossom ends at a node.
-    pub(crate) fn note_end(&mut self, base: u32, end: u32) {
-        if (base as usize) < self.ends.len() {
-            self.ends[base as usize] = end;
-        }
-    }
-
-    /// The matched edge between the blossoms of two bases, as far as it is known.
-    pub(crate) fn matched_edge(&self, base: u32, mate: u32) -> Option<Edge> {
-        let from = self.ends.get(base as usize)?;
-        let to = self.ends.get(mate as usize)?;
-        Some(Edge {
-            from: *from,
-            to: *to,
-        })
-    }
-
     /// An edge has closed a cycle that is contracted.
-    pub(crate) fn push(&mut self, from: u32, to: u32) {
+    pub(crate) fn push(&mut self, from: u32, to: u32)
+        ensures { self.new.ends ≡ self.old.ends }
+    {
         if self.count < self.closing.len() {
             self.closing[self.count] = Edge { from, to };
             self.count += 1;
@@ -59,7 +51,9 @@ impl KnownEdges {
     }
 
     /// The edge that closed the latest cycle, which is expanded.
-    pub(crate) fn pop(&mut self) -> Option<Edge> {
+    pub(crate) fn pop(&mut self) -> Option<Edge>
+        ensures { self.new.ends ≡ self.old.ends }
+    {
         if self.count == 0 || self.count > self.closing.len() {
             return None;
         }

@@ -5,6 +5,7 @@ mod augmenting;
 mod blossoms;
 mod contracting;
 mod cycles;
+mod ends;
 mod greedy;
 mod known;
 mod lifting;

@@ -7,9 +7,11 @@ ghost use Rattle.match_blossom.specs.Pointers.{Falls, Points, Leads};
 ghost use Rattle.match_blossom.specs.Stack.{Fits};
 ghost use Rattle.match_blossom.specs.Foldings.{IsMatchingBut, IsCycle, Touch, Touches, Joins, Unfolds, IsUnfolding, Foldings, folded, part_of, pair_off};
 ghost use Rattle.match_blossom.specs.Forest.{stacked, IsLiftable};
+ghost use Rattle.match_blossom.specs.Ends.{AreOwn, AreNoted};
 
 use crate::blossoms::Blossoms;
 use crate::cycles::Cycles;
+use crate::ends::Ends;
 use crate::known::{Edge, KnownEdges};
 use match_barrier::Graph;
 
@@ -19,8 +21,10 @@ pub(crate) fn lift_all(
     mates: &mut [u32],
     blossoms: &mut Blossoms,
     cycles: &mut Cycles,
+    parent: &[u32],
     known: &mut KnownEdges,
 )
+    requires noted { AreNoted blossoms.old.cycle_base.items known.old.ends.node.items known.old.ends.below.items }
     requires falls { Falls blossoms.old.cycle_base.items blossoms.old.order.items }
     requires leads { Leads (length blossoms.old.cycle_base.items) (at blossoms.old.cycle_base.items) (stacked cycles.old) }
     requires base_length { length graph.now ≤ length blossoms.old.cycle_base.items }
@@ -30,6 +34,7 @@ pub(crate) fn lift_all(
     requires folded { Foldings graph.now (stacked cycles.old) }
     requires matching { IsMatchingBut graph.now (part_of (stacked cycles.old)) mates.old [] }
     ensures lifted { IsUnfolding graph.now mates.old (stacked cycles.old) mates.new [] }
+    ensures own { AreOwn (length blossoms.old.cycle_base.items) known.new.ends.node.items known.new.ends.below.items }
     ensures base { (u : ℕ) → (at blossoms.new.cycle_base.items u ≡ at blossoms.old.cycle_base.items u) ⊎ (at blossoms.new.cycle_base.items u ≡ u) }
     ensures base_length { length blossoms.new.cycle_base.items ≡ length blossoms.old.cycle_base.items }
     ensures order { blossoms.new.order ≡ blossoms.old.order }
@@ -42,16 +47,18 @@ pub(crate) fn lift_all(
         let top = cycles.top;
         let end = top + cycles.sizes[cycles.height] as usize;
         blossoms.release(&cycles.nodes.as_slice()[top + 1..end]);
+        let entry = known.ends.enter(blossoms, cycles.nodes[top]);
         lift_part(
             graph,
             mates,
             blossoms,
+            parent,
             known,
             cycles.nodes.as_mut_slice(),
             top,
             end,
+            entry,
         );
-        note_closing(graph, mates, blossoms, known);
         cycles.top = end;
         cycles.height += 1;
     }
@@ -62,21 +69,35 @@ fn lift_part(
     graph: &Graph,
     mates: &mut [u32],
     blossoms: &Blossoms,
+    parent: &[u32],
     known: &mut KnownEdges,
     nodes: &mut [u32],
     from: usize,
     to: usize,
+    entry: u32,
 )
+    requires noted { AreNoted blossoms.now.cycle_base.items known.old.ends.node.items known.old.ends.below.items }
+    requires entry { entry < length blossoms.now.cycle_base.items }
+    requires entry_own { at blossoms.now.cycle_base.items entry ≡ entry }
     requires falls { Falls blossoms.now.cycle_base.items blossoms.now.order.items }
     requires base_length { length graph.now ≤ length blossoms.now.cycle_base.items }
     requires some { from < to }
     requires within { to ≤ length nodes.old }
     requires cycle { IsLiftable graph.now blossoms.now.cycle_base.items (take (to - from) (drop from nodes.old)) mates.old }
     ensures lifted { (part : ℕ → ℕ) → Points blossoms.entry.now.cycle_base.items part → IsCycle graph.now part (get_or (take (to - from) (drop from nodes.old)) 0 0) (drop 1 (take (to - from) (drop from nodes.old))) → is_odd (length (drop 1 (take (to - from) (drop from nodes.old)))) ≡ false → IsMatchingBut graph.now (folded part (get_or (take (to - from) (drop from nodes.old)) 0 0) (drop 1 (take (to - from) (drop from nodes.old)))) mates.old [] → Unfolds graph.now part (get_or (take (to - from) (drop from nodes.old)) 0 0) (drop 1 (take (to - from) (drop from nodes.old))) mates.old mates.new }
+    ensures noted { AreNoted blossoms.now.cycle_base.items known.new.ends.node.items known.new.ends.below.items }
     ensures behind { drop to nodes.new ≡ drop to nodes.old }
     ensures length { length nodes.new ≡ length nodes.old }
 {
-    lift(graph, mates, blossoms, known, &mut nodes[from..to]);
+    lift(
+        graph,
+        mates,
+        blossoms,
+        parent,
+        known,
+        &mut nodes[from..to],
+        entry,
+    );
 }
 
 // Mates the nodes of a cycle, which is turned so that the node to be mated outside comes first.
@@ -84,106 +105,84 @@ fn lift(
     graph: &Graph,
     mates: &mut [u32],
     blossoms: &Blossoms,
+    parent: &[u32],
     known: &mut KnownEdges,
     cycle: &mut [u32],
+    entry: u32,
 )
+    requires noted { AreNoted blossoms.now.cycle_base.items known.old.ends.node.items known.old.ends.below.items }
+    requires entry { entry < length blossoms.now.cycle_base.items }
+    requires entry_own { at blossoms.now.cycle_base.items entry ≡ entry }
     requires falls { Falls blossoms.now.cycle_base.items blossoms.now.order.items }
     requires base_length { length graph.now ≤ length blossoms.now.cycle_base.items }
     requires some { 0 < length cycle.old }
     requires cycle { IsLiftable graph.now blossoms.now.cycle_base.items cycle.old mates.old }
-    ensures { (part : ℕ → ℕ) → Points blossoms.entry.now.cycle_base.items part → IsCycle graph.now part (get_or cycle.old 0 0) (drop 1 cycle.old) → is_odd (length (drop 1 cycle.old)) ≡ false → IsMatchingBut graph.now (folded part (get_or cycle.old 0 0) (drop 1 cycle.old)) mates.old [] → Unfolds graph.now part (get_or cycle.old 0 0) (drop 1 cycle.old) mates.old mates.new }
+    ensures noted { AreNoted blossoms.now.cycle_base.items known.new.ends.node.items known.new.ends.below.items }
+    ensures lifted { (part : ℕ → ℕ) → Points blossoms.entry.now.cycle_base.items part → IsCycle graph.now part (get_or cycle.old 0 0) (drop 1 cycle.old) → is_odd (length (drop 1 cycle.old)) ≡ false → IsMatchingBut graph.now (folded part (get_or cycle.old 0 0) (drop 1 cycle.old)) mates.old [] → Unfolds graph.now part (get_or cycle.old 0 0) (drop 1 cycle.old) mates.old mates.new }
 {
     let base = cycle[0];
     let x = mates[base as usize];
     if x != graph.node_count() {
-        let k = touching_place(graph, blossoms, known, cycle, x);
+        let k = touching_place(graph, blossoms, &mut known.ends, cycle, x, entry);
         cycle.rotate_left(k);
         mates[x as usize] = cycle[0];
         mates[cycle[0] as usize] = x;
     }
+    note_pairs(mates, blossoms, parent, known, &cycle[1..]);
     pair_off(&cycle[1..], mates);
 }
 
-// The place in the cycle of a blossom that touches x, which is a base.
+// The place in the cycle of a blossom that touches x, which is a base: that of the entry, as far as its end is known.
 fn touching_place(
     graph: &Graph,
     blossoms: &Blossoms,
-    known: &mut KnownEdges,
+    ends: &mut Ends,
     cycle: &[u32],
     x: u32,
+    entry: u32,
 ) -> usize
     requires falls { Falls blossoms.now.cycle_base.items blossoms.now.order.items }
+    requires noted { AreNoted blossoms.now.cycle_base.items ends.old.node.items ends.old.below.items }
     requires base_length { length graph.now ≤ length blossoms.now.cycle_base.items }
-    requires some { 0 < length cycle.now }
+    requires entry { entry < length blossoms.now.cycle_base.items }
+    requires entry_own { at blossoms.now.cycle_base.items entry ≡ entry }
     requires below { x < length graph.now }
     requires own { at blossoms.now.cycle_base.items x ≡ x }
     requires touches { (part : ℕ → ℕ) × Points blossoms.now.cycle_base.items part × Touches graph.now part cycle.now x }
     ensures below { result < length cycle.now }
     ensures touch { (part : ℕ → ℕ) → Points blossoms.entry.now.cycle_base.items part → Touch graph.now part (get_or cycle.now result 0) x }
+    ensures noted { AreNoted blossoms.now.cycle_base.items ends.new.node.items ends.new.below.items }
 {
     let _nodes = graph.node_count();
-    let edge = joining_edge(graph, blossoms, known, cycle, x);
-    known.note_end(x, edge.to);
+    if let Some(k) = place_of(cycle, entry) {
+        if ends.are_adjacent(graph, entry, x) {
+            return k;
+        }
+    }
+    sought_place(graph, blossoms, ends, cycle, x)
+}
+
+// The same place, where the edge has to be sought.
+fn sought_place(graph: &Graph, blossoms: &Blossoms, ends: &mut Ends, cycle: &[u32], x: u32) -> usize
+    requires falls { Falls blossoms.now.cycle_base.items blossoms.now.order.items }
+    requires noted { AreNoted blossoms.now.cycle_base.items ends.old.node.items ends.old.below.items }
+    requires base_length { length graph.now ≤ length blossoms.now.cycle_base.items }
+    requires touches { (part : ℕ → ℕ) × Points blossoms.now.cycle_base.items part × Touches graph.now part cycle.now x }
+    ensures below { result < length cycle.now }
+    ensures touch { (part : ℕ → ℕ) → Points blossoms.entry.now.cycle_base.items part → Touch graph.now part (get_or cycle.now result 0) x }
+    ensures noted { AreNoted blossoms.now.cycle_base.items ends.new.node.items ends.new.below.items }
+{
+    let _nodes = graph.node_count();
+    let edge = edge_among_all(graph, blossoms, cycle, x);
+    ends.note(blossoms, edge.from);
+    ends.note(blossoms, edge.to);
     match place_of(cycle, blossoms.base_by_cycles(edge.from)) {
         None => unreachable!(),
-        Some(k) => {
-            known.note_end(cycle[k], edge.from);
-            k
-        }
+        Some(k) => k,
     }
 }
 
-// An edge from a blossom of the cycle to that of x.
-fn joining_edge(
-    graph: &Graph,
-    blossoms: &Blossoms,
-    known: &KnownEdges,
-    cycle: &[u32],
-    x: u32,
-) -> Edge
-    requires falls { Falls blossoms.now.cycle_base.items blossoms.now.order.items }
-    requires base_length { length graph.now ≤ length blossoms.now.cycle_base.items }
-    requires some { 0 < length cycle.now }
-    requires below { x < length graph.now }
-    requires own { at blossoms.now.cycle_base.items x ≡ x }
-    requires touches { (part : ℕ → ℕ) × Points blossoms.now.cycle_base.items part × Touches graph.now part cycle.now x }
-    ensures edge { adjacent graph.now result.from result.to ≡ true }
-    ensures joins { (part : ℕ → ℕ) → Points blossoms.entry.now.cycle_base.items part → Joins part cycle.now x result.from result.to }
-{
-    let _nodes = graph.node_count();
-    if let Some(edge) = known.matched_edge(cycle[0], x) {
-        if joins(graph, blossoms, cycle, x, edge) {
-            return edge;
-        }
-    }
-    // Where x is no blossom the edge ends at x itself.
-    if let Some(from) = neighbour_inside(graph.neighbours(x), blossoms, cycle) {
-        return Edge { from, to: x };
-    }
-    edge_among_all(graph, blossoms, cycle, x)
-}
-
-// Whether an edge leads from a blossom of the cycle to that of x.
-fn joins(graph: &Graph, blossoms: &Blossoms, cycle: &[u32], x: u32, edge: Edge) -> bool
-    requires falls { Falls blossoms.now.cycle_base.items blossoms.now.order.items }
-    requires base_length { length graph.now ≤ length blossoms.now.cycle_base.items }
-    ensures edge { result ≡ true → adjacent graph.now edge.from edge.to ≡ true }
-    ensures joins { result ≡ true → (part : ℕ → ℕ) → Points blossoms.entry.now.cycle_base.items part → Joins part cycle.now x edge.from edge.to }
-{
-    let nodes = graph.node_count();
-    if edge.from >= nodes || edge.to >= nodes || !graph.are_adjacent(edge.from, edge.to) {
-        return false;
-    }
-    if blossoms.base_by_cycles(edge.to) != x {
-        return false;
-    }
-    match place_of(cycle, blossoms.base_by_cycles(edge.from)) {
-        None => false,
-        Some(_) => true,
-    }
-}
-
-// The same edge, sought among those of all nodes of the blossom of x.
+// An edge from a blossom of the cycle to that of x, sought among those of all nodes of the blossom of x.
 fn edge_among_all(graph: &Graph, blossoms: &Blossoms, cycle: &[u32], x: u32) -> Edge
     requires falls { Falls blossoms.now.cycle_base.items blossoms.now.order.items }
     requires base_length { length graph.now ≤ length blossoms.now.cycle_base.items }
@@ -218,19 +217,74 @@ fn neighbour_inside(neighbours: &[u32], blossoms: &Blossoms, cycle: &[u32]) -> O
     None
 }
 
-// Notes the edge that closed the latest cycle as the matched one of its two blossoms, where these are mated.
-fn note_closing(graph: &Graph, mates: &[u32], blossoms: &Blossoms, known: &mut KnownEdges)
+// Notes the edges of the nodes that are to be paired off, of which the latest cycle consists but for one.
+fn note_pairs(
+    mates: &[u32],
+    blossoms: &Blossoms,
+    parent: &[u32],
+    known: &mut KnownEdges,
+    list: &[u32],
+)
     requires falls { Falls blossoms.now.cycle_base.items blossoms.now.order.items }
-    requires base_length { length graph.now ≤ length blossoms.now.cycle_base.items }
+    requires noted { AreNoted blossoms.now.cycle_base.items known.old.ends.node.items known.old.ends.below.items }
+    ensures { AreNoted blossoms.now.cycle_base.items known.new.ends.node.items known.new.ends.below.items }
 {
-    let nodes = graph.node_count();
-    if let Some(edge) = known.pop() {
-        if edge.from < nodes && edge.to < nodes {
-            let a = blossoms.base_by_cycles(edge.from);
-            let b = blossoms.base_by_cycles(edge.to);
-            if (a as usize) < mates.len() && mates[a as usize] == b {
-                known.note_end(a, edge.from);
-                known.note_end(b, edge.to);
+    let closing = known.pop();
+    let mut k = 0;
+    while k + 1 < list.len() {
+        // Nodes that were mated before still are their own ends.
+        if !was_mate(mates, list[k], list[k + 1]) {
+            note_pair(
+                blossoms,
+                parent,
+                &mut known.ends,
+                closing,
+                list[k],
+                list[k + 1],
+            );
+        }
+        k += 2;
+    }
+}
+
+// Whether a node was mated with another.
+fn was_mate(mates: &[u32], v: u32, w: u32) -> bool {
+    match mates.get(v as usize) {
+        None => false,
+        Some(mate) => *mate == w,
+    }
+}
+
+// Notes the edge of two nodes of a cycle: that of an inner one to its parent, or else the edge that closed the cycle.
+fn note_pair(
+    blossoms: &Blossoms,
+    parent: &[u32],
+    ends: &mut Ends,
+    closing: Option<Edge>,
+    a: u32,
+    b: u32,
+)
+    requires falls { Falls blossoms.now.cycle_base.items blossoms.now.order.items }
+    requires noted { AreNoted blossoms.now.cycle_base.items ends.old.node.items ends.old.below.items }
+    ensures { AreNoted blossoms.now.cycle_base.items ends.new.node.items ends.new.below.items }
+{
+    let inner = if blossoms.was_inner(a) {
+        Some(a)
+    } else if blossoms.was_inner(b) {
+        Some(b)
+    } else {
+        None
+    };
+    match inner {
+        None => {
+            if let Some(edge) = closing {
+                ends.note(blossoms, edge.from);
+                ends.note(blossoms, edge.to);
+            }
+        }
+        Some(v) => {
+            if let Some(above) = parent.get(v as usize) {
+                ends.note(blossoms, *above);
             }
         }
     }

@@ -3,6 +3,7 @@ ghost use Rattle.match_barrier.specs.Matching.{IsPerfect};
 ghost use Rattle.match_blossom.specs.Labels.{is_inner};
 ghost use Rattle.match_blossom.specs.Foldings.{IsMatchingBut, Augmented};
 ghost use Rattle.match_blossom.specs.Forest.{IsClean};
+ghost use Rattle.match_blossom.specs.Ends.{AreOwn};
 ghost use Rattle.match_blossom.specs.Inner.{ListsInner};
 ghost use Rattle.match_blossom.specs.Answer.{IsAnswer, IsBarrierSet, HasNoPerfect, SaysBarrier};
 
@@ -35,12 +36,13 @@ pub struct Matcher {
 impl Model for Matcher {
     ghost use Rattle.std.specs.Prelude.{ℕ, length, ◌≡◌};
     ghost use Rattle.match_blossom.specs.Forest.{IsClean};
+    ghost use Rattle.match_blossom.specs.Ends.{AreOwn};
 
     ghost Value = { ℕ };
 
     ghost view = { λ m. length m.mates.items };
 
-    ghost invariant = { λ m. (length m.set.items ≡ length m.mates.items) × IsClean (length m.mates.items) m.tree };
+    ghost invariant = { λ m. (length m.set.items ≡ length m.mates.items) × IsClean (length m.mates.items) m.tree × AreOwn (length m.mates.items) m.known.ends.node.items m.known.ends.below.items };
 }
 
 impl Matcher {
@@ -95,11 +97,13 @@ fn solve_within(
     requires mates { length graph.now ≤ length mates.old }
     requires set { length set.old ≡ length mates.old }
     requires clean { IsClean (length mates.old) tree.old }
+    requires own { AreOwn (length mates.old) known.old.ends.node.items known.old.ends.below.items }
     ensures none { IfNone result (IsPerfect graph.now (take (length graph.now) mates.new)) }
     ensures some { IfSome result (λ size. (size ≤ length set.new) × IsBarrierSet graph.now (take size set.new) × HasNoPerfect graph.now) }
     ensures mates_length { length mates.new ≡ length mates.old }
     ensures set_length { length set.new ≡ length set.old }
     ensures clean { IsClean (length mates.old) tree.new }
+    ensures own { AreOwn (length mates.old) known.new.ends.node.items known.new.ends.below.items }
 {
     let nodes = graph.node_count();
     solve_in(graph, &mut mates[..nodes as usize], tree, known, set)
@@ -116,11 +120,13 @@ fn solve_in(
     requires mates { length mates.old ≡ length graph.now }
     requires room { length graph.now ≤ length set.old }
     requires clean { IsClean (length set.old) tree.old }
+    requires own { AreOwn (length set.old) known.old.ends.node.items known.old.ends.below.items }
     ensures none { IfNone result (IsPerfect graph.now mates.new) }
     ensures some { IfSome result (λ size. (size ≤ length set.new) × IsBarrierSet graph.now (take size set.new) × HasNoPerfect graph.now) }
     ensures mates_length { length mates.new ≡ length mates.old }
     ensures set_length { length set.new ≡ length set.old }
     ensures clean { IsClean (length set.old) tree.new }
+    ensures own { AreOwn (length set.old) known.new.ends.node.items known.new.ends.below.items }
 {
     match_greedily(graph, mates);
     let nodes = graph.node_count();
@@ -148,10 +154,12 @@ fn mate_root(
     requires free { get_or mates.old root 0 ≡ length graph.now }
     requires room { length graph.now ≤ length set.old }
     requires clean { IsClean (length set.old) tree.old }
+    requires own { AreOwn (length set.old) known.old.ends.node.items known.old.ends.below.items }
     ensures none { IfNone result (Augmented graph.now mates.old mates.new root) }
     ensures some { IfSome result (λ size. (size ≤ length set.new) × IsBarrierSet graph.now (take size set.new)) }
     ensures set_length { length set.new ≡ length set.old }
     ensures clean { IsClean (length set.old) tree.new }
+    ensures own { AreOwn (length set.old) known.new.ends.node.items known.new.ends.below.items }
 {
     tree.begin(graph, mates, root);
     known.begin();

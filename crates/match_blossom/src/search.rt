@@ -2,6 +2,7 @@ ghost use Rattle.std.specs.Prelude.{◌≡◌, ◌<◌, ◌≤◌, ◌+◌, ℕ,
 ghost use Rattle.std.specs.Bool.{MatchBool};
 ghost use Rattle.match_barrier.specs.Graph.{adjacent};
 ghost use Rattle.match_blossom.specs.Labels.{at, is_outer, is_inner};
+ghost use Rattle.match_blossom.specs.Ends.{AreOwn};
 ghost use Rattle.match_blossom.specs.Forest.{IsForest, IsStep, IsScanned, IsSettled, IsTouched, KeepsLengths, GoesOn, HasAugmented, base_in};
 
 use crate::augmenting::augment;
@@ -17,8 +18,10 @@ pub(crate) fn search(
     tree: &mut AlternatingTree,
     known: &mut KnownEdges,
 ) -> bool
-    requires { IsForest graph.now mates.old tree.old }
-    ensures { MatchBool result (HasAugmented graph.now mates.old mates.new tree.old tree.new) ((mates.new ≡ mates.old) × IsForest graph.now mates.new tree.new × IsScanned graph.now tree.new tree.new.queued × KeepsLengths tree.old tree.new) }
+    requires forest { IsForest graph.now mates.old tree.old }
+    requires own { AreOwn (length tree.old.blossoms.cycle_base.items) known.old.ends.node.items known.old.ends.below.items }
+    ensures own { AreOwn (length tree.new.blossoms.cycle_base.items) known.new.ends.node.items known.new.ends.below.items }
+    ensures found { MatchBool result (HasAugmented graph.now mates.old mates.new tree.old tree.new) ((mates.new ≡ mates.old) × IsForest graph.now mates.new tree.new × IsScanned graph.now tree.new tree.new.queued × KeepsLengths tree.old tree.new) }
 {
     let mut head = 0;
     while head < tree.queued {
@@ -39,9 +42,11 @@ fn scan(
     head: usize,
 ) -> bool
     requires forest { IsForest graph.now mates.old tree.old }
+    requires own { AreOwn (length tree.old.blossoms.cycle_base.items) known.old.ends.node.items known.old.ends.below.items }
     requires head { head < tree.old.queued }
     requires scanned { IsScanned graph.now tree.old head }
-    ensures { MatchBool result (HasAugmented graph.now mates.old mates.new tree.old tree.new) ((mates.new ≡ mates.old) × IsForest graph.now mates.new tree.new × IsScanned graph.now tree.new (head + 1) × GoesOn graph.now tree.old tree.new) }
+    ensures own { AreOwn (length tree.new.blossoms.cycle_base.items) known.new.ends.node.items known.new.ends.below.items }
+    ensures step { MatchBool result (HasAugmented graph.now mates.old mates.new tree.old tree.new) ((mates.new ≡ mates.old) × IsForest graph.now mates.new tree.new × IsScanned graph.now tree.new (head + 1) × GoesOn graph.now tree.old tree.new) }
 {
     let _nodes = graph.node_count();
     let u = tree.queue[head];
@@ -63,9 +68,11 @@ fn step(
     v: u32,
 ) -> bool
     requires forest { IsForest graph.now mates.old tree.old }
+    requires own { AreOwn (length tree.old.blossoms.cycle_base.items) known.old.ends.node.items known.old.ends.below.items }
     requires edge { adjacent graph.now u v ≡ true }
     requires outer { is_outer tree.old.labels.items (base_in tree.old u) ≡ true }
-    ensures { MatchBool result (HasAugmented graph.now mates.old mates.new tree.old tree.new) ((mates.new ≡ mates.old) × IsStep graph.now mates.new tree.old tree.new u v) }
+    ensures own { AreOwn (length tree.new.blossoms.cycle_base.items) known.new.ends.node.items known.new.ends.below.items }
+    ensures step { MatchBool result (HasAugmented graph.now mates.old mates.new tree.old tree.new) ((mates.new ≡ mates.old) × IsStep graph.now mates.new tree.old tree.new u v) }
 {
     let _nodes = graph.node_count();
     tree.blossoms.shorten(u);
@@ -83,9 +90,11 @@ fn step_along(
     v: u32,
 ) -> bool
     requires forest { IsForest graph.now mates.old tree.old }
+    requires own { AreOwn (length tree.old.blossoms.cycle_base.items) known.old.ends.node.items known.old.ends.below.items }
     requires edge { adjacent graph.now u v ≡ true }
     requires outer { is_outer tree.old.labels.items (base_in tree.old u) ≡ true }
-    ensures { MatchBool result (HasAugmented graph.now mates.old mates.new tree.old tree.new) ((mates.new ≡ mates.old) × IsStep graph.now mates.new tree.old tree.new u v) }
+    ensures own { AreOwn (length tree.new.blossoms.cycle_base.items) known.new.ends.node.items known.new.ends.below.items }
+    ensures step { MatchBool result (HasAugmented graph.now mates.old mates.new tree.old tree.new) ((mates.new ≡ mates.old) × IsStep graph.now mates.new tree.old tree.new u v) }
 {
     let nodes = graph.node_count();
     let a = tree.blossoms.base_of(u);

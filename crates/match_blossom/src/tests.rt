@@ -345,9 +345,9 @@ fn outer_node(place: u32, pairs: u32) -> u32 {
 }
 
 /// A way up from a free node, at whose end a triangle is contracted; then cycles close from above down, each with a base
-/// of its own, and only the last leads to the other free node.
-fn descending_cycles(rt: &impl AllocGlobal, pairs: u32) -> Result<Graph, Fail> {
-    let mut graph = Graph::new(rt.alloc(), pairs.saturating_mul(4).saturating_add(2))?;
+/// of its own.
+fn closing_cycles(rt: &impl AllocGlobal, nodes: u32, pairs: u32) -> Result<Graph, Fail> {
+    let mut graph = Graph::new(rt.alloc(), nodes)?;
     for k in 0..pairs {
         let inner = k.saturating_mul(4);
         join(&mut graph, inner, inner.saturating_add(1))?;
@@ -370,7 +370,33 @@ fn descending_cycles(rt: &impl AllocGlobal, pairs: u32) -> Result<Graph, Fail> {
         outer_node(pairs.saturating_sub(1), pairs),
         outer_node(pairs, pairs),
     )?;
-    join(&mut graph, 0, pairs.saturating_mul(4).saturating_add(1))?;
+    Ok(graph)
+}
+
+/// Only the last of these cycles leads to the other free node.
+fn descending_cycles(rt: &impl AllocGlobal, pairs: u32) -> Result<Graph, Fail> {
+    let free = pairs.saturating_mul(4).saturating_add(1);
+    let mut graph = closing_cycles(rt, free.saturating_add(1), pairs)?;
+    join(&mut graph, 0, free)?;
+    Ok(graph)
+}
+
+/// The innermost of these cycles leads to the other free node, by a way so long that all are contracted before its end.
+fn deep_cycles(rt: &impl AllocGlobal, pairs: u32) -> Result<Graph, Fail> {
+    let free = pairs.saturating_mul(4).saturating_add(1);
+    let long = pairs.saturating_add(2);
+    let nodes = free
+        .saturating_add(1)
+        .saturating_add(long.saturating_mul(2));
+    let mut graph = closing_cycles(rt, nodes, pairs)?;
+    let mut last = pairs.saturating_mul(4).saturating_sub(4);
+    for k in 0..long {
+        let inner = free.saturating_add(1).saturating_add(k.saturating_mul(2));
+        join(&mut graph, inner, inner.saturating_add(1))?;
+        join(&mut graph, last, inner)?;
+        last = inner.saturating_add(1);
+    }
+    join(&mut graph, last, free)?;
     Ok(graph)
 }
 
@@ -441,6 +467,11 @@ fn cycles_in_cycles(rt: HostRuntime) -> Result<(), Fail> {
         assert!(rt;
             matches!(confirmed(&rt, &graph)?, Verdict::Perfect),
             "{pairs} pairs"
+        );
+        let deep = deep_cycles(&rt, pairs)?;
+        assert!(rt;
+            matches!(confirmed(&rt, &deep)?, Verdict::Perfect),
+            "{pairs} pairs, deep"
         );
     }
     for count in [1u32, 2, 100] {

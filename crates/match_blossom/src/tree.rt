@@ -163,8 +163,8 @@ impl AlternatingTree {
     }
 }
 
-// Each node is its own base.
-fn own_bases(alloc: Global, nodes: u32) -> Result<Vec<u32>, NoMemory>
+/// Each node is its own base.
+pub(crate) fn own_bases(alloc: Global, nodes: u32) -> Result<Vec<u32>, NoMemory>
     ensures { IfOk result (λ base. (length base.items ≡ nodes) × ((v : ℕ) → v < nodes → at base.items v ≡ v)) }
 {
     let mut base = Vec::new(alloc);

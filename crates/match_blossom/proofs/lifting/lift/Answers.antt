@@ -45,8 +45,8 @@ pair_off-requires c = λ z inside.
           let h = (c.requires.cycle.is.living z (has_rest (get_or c.args.cycle.now 0 0) (drop 1 c.args.cycle.now) z (subst (λ (xs : List ℕ). has (drop 1 xs) z ≡ true) w.cycle-is member))).0 in omega arith
     ]
 
-pub returns : goal.returns
-returns c = λ part points is even matching.
+pub returns-clause-lifted : goal.returns-clause-lifted
+returns-clause-lifted c = λ part points is even matching.
     let g : List (List ℕ) = c.args.graph.now in
     let base : ℕ = get_or c.args.cycle.now 0 0 in
     let others : List ℕ = drop 1 c.args.cycle.now in

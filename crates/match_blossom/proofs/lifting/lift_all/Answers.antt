@@ -10,6 +10,7 @@ use Rattle.match_blossom.specs.Foldings.{Folding, IsCycle, IsMatchingBut, IsUnfo
 use Rattle.match_blossom.specs.Forest.{stacked, IsLiftable}
 use Rattle.match_blossom.proofs.Scanning.{at_default}
 use Rattle.match_blossom.proofs.Releasing.{others_in_range, latest_released, cycle_slice, base_release, lifted_one}
+use Rattle.match_blossom.proofs.Noted.{latest_noted}
 use Rattle.match_blossom.proofs.lifting.lift_all.Goals as goal
 
 pub release-requires : goal.release-requires
@@ -23,6 +24,22 @@ release-requires c =
     let long = c.requires.base_length in
     let same = was.base_length in
     others_in_range g c.args.mates.now (stacked c.args.cycles.now) c.loop-cycles.mates cy size c.as_slice.result.now (length c.loop-cycles.blossoms.cycle_base.items) less was.top size_is was.fits was.lifting (omega arith) c.as_slice.ensures.value
+
+pub enter-entry-requires : goal.enter-entry-requires
+enter-entry-requires c =
+    let g = c.args.graph.now in
+    let was = c.loop-cycles.invariant in
+    let cy : Cycles = c.loop-cycles.cycles in
+    let size : ℕ = c.index.result.now in
+    let less : cy.height < length cy.sizes.items = (let t = c.loop-cycles-test.true in let e = c.len.ensures in omega arith) in
+    let size_is : size ≡ get_or cy.sizes.items cy.height 0 = c.index.ensures ∙ at_default cy.sizes.items cy.height size 0 less in
+    let rel = latest_released g c.args.mates.now (stacked c.args.cycles.now) c.loop-cycles.mates c.loop-cycles.blossoms.cycle_base.items c.release.new.self.cycle_base.items c.loop-cycles.blossoms.order.items cy size c.as_slice.result.now less was.top size_is was.fits was.lifting was.falls was.leads c.as_slice.ensures.value c.release.ensures.base c.release.ensures.length in
+    let long = c.requires.base_length in
+    let same = was.base_length in
+    let within = rel.within in
+    let some = rel.some in
+    let base_is : c.index-in-loop-cycles.result.now ≡ get_or cy.nodes.items cy.top 0 = c.index-in-loop-cycles.ensures ∙ at_default cy.nodes.items cy.top c.index-in-loop-cycles.result.now 0 (omega arith) in
+    latest_noted g c.args.mates.now (stacked c.args.cycles.now) c.loop-cycles.mates c.loop-cycles.blossoms.cycle_base.items c.release.new.self.cycle_base.items c.loop-cycles.blossoms.order.items c.loop-cycles.known.ends.node.items c.loop-cycles.known.ends.below.items cy size c.index-in-loop-cycles.result.now (omega arith) c.release.ensures.length base_is was.leads was.noted rel
 
 pub lift_part-requires-clause-falls : goal.lift_part-requires-clause-falls
 lift_part-requires-clause-falls c =
@@ -75,6 +92,7 @@ loop-cycles-preserved c =
       lifting = subst (λ (fs : List Folding). IsUnfolding g c.args.mates.now (stacked c.args.cycles.now) after fs) (sym stack) one;
       falls = subst (λ o. Falls pointers o.items) (sym c.release.ensures.order) rel.falls;
       leads = subst (λ (fs : List Folding). Leads (length pointers) (at pointers) fs) (sym stack) h.leads;
+      noted = c.lift_part.ensures.noted;
       base = base_release (at c.loop-cycles.blossoms.cycle_base.items) (at pointers) (at c.args.blossoms.now.cycle_base.items) (drop 1 cycle) rel.new was.base;
       base_length = c.release.ensures.length ∙ was.base_length;
       order = c.release.ensures.order ∙ was.order;

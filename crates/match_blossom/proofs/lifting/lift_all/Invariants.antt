@@ -5,6 +5,7 @@ use Rattle.match_blossom.specs.Pointers.{Falls, Leads}
 use Rattle.match_blossom.specs.Stack.{Fits}
 use Rattle.match_blossom.specs.Foldings.{IsUnfolding}
 use Rattle.match_blossom.specs.Forest.{stacked}
+use Rattle.match_blossom.specs.Ends.{AreNoted}
 use Rattle.match_blossom.proofs.lifting.lift_all.Given as goal
 
 abbrev pub invariant-loop-cycles : goal.invariant-loop-cycles
@@ -12,6 +13,7 @@ invariant-loop-cycles l = record {
   lifting : IsUnfolding l.graph l.initial.mates (stacked l.initial.cycles) l.mates (stacked l.cycles);
   falls : Falls l.blossoms.cycle_base.items l.blossoms.order.items;
   leads : Leads (length l.blossoms.cycle_base.items) (at l.blossoms.cycle_base.items) (stacked l.cycles);
+  noted : AreNoted l.blossoms.cycle_base.items l.known.ends.node.items l.known.ends.below.items;
   base : (u : ℕ) → (at l.blossoms.cycle_base.items u ≡ at l.initial.blossoms.cycle_base.items u) ⊎ (at l.blossoms.cycle_base.items u ≡ u);
   base_length : length l.blossoms.cycle_base.items ≡ length l.initial.blossoms.cycle_base.items;
   order : l.blossoms.order ≡ l.initial.blossoms.order;

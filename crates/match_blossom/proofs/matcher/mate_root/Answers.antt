@@ -12,4 +12,4 @@ returns-clause-some c =
     let lists : ListsInner (take (length g) tree.labels.items) (length (take (length g) tree.labels.items)) set =
     subst (λ (n : ℕ). ListsInner (take n tree.labels.items) (length (take n tree.labels.items)) set) c.node_count-nodes.ensures.count
     (subst (λ (xs : List Label). ListsInner (take c.node_count-nodes.result xs) (length (take c.node_count-nodes.result xs)) set) c.as_slice.ensures.value c.collect_inner-size.ensures.lists) in
-    (c.collect_inner-size.ensures.size, scanned_barrier g c.search.new.mates tree set c.node_count-nodes.ensures.graph c.if-search.ensures.1 c.if-search.ensures.2 lists)
+    (c.collect_inner-size.ensures.size, scanned_barrier g c.search.new.mates tree set c.node_count-nodes.ensures.graph c.if-search.ensures.found.1 c.if-search.ensures.found.2 lists)

@@ -26,12 +26,12 @@ step-requires-clause-outer c =
     let same : at now.queue.items c.args.head ≡ c.index-u.result.now = was.goes_on.queue c.args.head head ∙ sym u_is in
     ap (λ (x : ℕ). is_outer now.labels.items (base_in now x)) (sym same) ∙ was.forest.queue.outer c.args.head (omega arith)
 
-pub returns-then-step : goal.returns-then-step
-returns-then-step c =
+pub returns-then-step-clause-step : goal.returns-then-step-clause-step
+returns-then-step-clause-step c =
     let was = c.loop-v.invariant in
     let g = c.args.graph.now in
     let after = c.step.new.mates in
-    let h = c.if-step.ensures in
+    let h = c.if-step.ensures.step in
     record {
       augmented = subst (λ (r : ℕ). Augmented g c.args.mates.now after r) was.goes_on.root (subst (λ (m : List ℕ). Augmented g m after c.loop-v.tree.root) was.mates h.augmented);
       touched = h.touched;
@@ -48,17 +48,18 @@ loop-v-preserved c =
     let new : AlternatingTree = c.step.new.tree in
     let row : List ℕ = c.neighbours-v-items.result.now in
     let u : ℕ = c.index-u.result.now in
-    let step = c.if-step.ensures.1 in
+    let step = c.if-step.ensures.step.1 in
     let head = c.requires.head in
     let more = was.goes_on.queued in
     let is = c.node_count-nodes.ensures.graph in
     let neighbour : (k : ℕ) → k < length row → adjacent g u (get_or row k 0) ≡ true = λ k less. ap (λ (xs : List ℕ). has xs (get_or row k 0)) (sym c.neighbours-v-items.ensures.list) ∙ has_at row k 0 less in
     let index = c.loop-v-test.true in
     record {
-      mates = c.if-step.ensures.0 ∙ was.mates;
+      mates = c.if-step.ensures.step.0 ∙ was.mates;
       forest = step.forest;
       scanned = scanned_on g c.loop-v.mates old new c.args.head is was.forest step.goes_on (omega arith) was.scanned;
       goes_on = goes_on_trans g c.args.tree.now old new was.goes_on step.goes_on;
+      own = c.step.ensures.own;
       seen = λ k less. elim (cases_eq k c.loop-v.v-index) [
         | inl e ↦ subst (λ (j : ℕ). IsSettled new (c.args.head + 1) u (get_or row j 0)) (sym e) (step_settles g c.step.new.mates old new (c.args.head + 1) u (get_or row c.loop-v.v-index 0) step)
         | inr ne ↦
@@ -68,8 +69,8 @@ loop-v-preserved c =
       ];
     }
 
-pub returns : goal.returns
-returns c =
+pub returns-clause-step : goal.returns-clause-step
+returns-clause-step c =
     let was = c.loop-v.invariant in
     let g = c.args.graph.now in
     let first = c.args.tree.now in

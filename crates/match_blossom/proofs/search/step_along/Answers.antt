@@ -30,8 +30,8 @@ grow-requires-clause-matched c =
     let own : b ≡ c.args.v = forest.search.tree.alone c.args.v below no_outer in
     (forest.search.tree.matching.mate c.args.v (below, own) refl (λ e. c.if-mates-v.false (e ∙ sym c.node_count-nodes.ensures.count))).0.0
 
-pub returns-in-Inner : goal.returns-in-Inner
-returns-in-Inner c =
+pub returns-in-Inner-clause-step : goal.returns-in-Inner-clause-step
+returns-in-Inner-clause-step c =
     let forest = c.requires.forest in
     let g = c.args.graph.now in
     let b : ℕ = base_in c.args.tree.now c.args.v in
