@@ -18,7 +18,7 @@ from test_crate import TOP
 
 NAME = "placing"
 CRATES = "mc_base mc_elements mc_digits mc_io ct_sd mc_mol mc_rings ct_geometry lay_place lay_wedge".split()
-MODULES = {"lay_place": ["stereo", "skeletons"], "lay_wedge": ["molecules", "plain_reading", "planned"]}
+MODULES = {"lay_place": ["stereo", "skeletons"], "lay_wedge": ["choices", "molecules", "plain_reading", "planned", "sameness", "sides", "tables"]}
 SHAPES = ["chain", "polyene", "dendrimer", "rings"]
 SKELETONS = "steroid morphine cubane crown_with_double_bonds_outside spiro_chain dendrimer chain_of_333_centres chain_of_double_bonds sulfoxide".split()
 SPEED = """//! How long placing takes.
@@ -33,7 +33,7 @@ use std::alloc::Global;
 use std::test::Fail;
 use std::time::Instant;
 
-const SIZES: [u32; 5] = [62, 125, 250, 500, 999];
+const SIZES: [u32; 6] = [20, 62, 125, 250, 500, 999];
 
 /// Places a molecule so many times.
 fn place_times(alloc: Global, mol: &Mol, rings: &Rings, runs: u32) -> Result<(), NoMemory>

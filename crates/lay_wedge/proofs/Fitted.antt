@@ -11,11 +11,13 @@ use Rattle.std.proofs.lemmas.Map.Keys.{any_passes_from_place}
 use Rattle.mc_base.specs.declared.ids.AtomId.{AtomId}
 use Rattle.mc_mol.specs.declared.parts.HalfEdge.{HalfEdge}
 use Rattle.mc_mol.specs.declared.parts.Slot.{Slot}
-use Rattle.mc_mol.specs.declared.parts.Slot.TheVariants.{At, Rest}
+use Rattle.mc_mol.specs.declared.parts.Slot.TheVariants.{At}
 use Rattle.mc_mol.specs.Molecule.{Molecule, are_joined}
 use Rattle.mc_mol.specs.HalfEdges.{half_edges}
 use Rattle.mc_mol.specs.Permutations.{same_slot, stands_in}
-use Rattle.mc_mol.specs.WellFormed.{IsMolecule, IsPlaceList}
+use Rattle.mc_mol.specs.WellFormed.{IsMolecule, IsPlaceList, IsSides, SidesFit}
+use Rattle.mc_mol.specs.declared.parts.Bond.{Bond}
+use Rattle.mc_mol.specs.declared.parts.Sides.{Sides}
 use Rattle.mc_mol.proofs.Halves.{are_joined-half_edges}
 use Rattle.mc_mol.proofs.Neighbours.{joined_ends}
 use Rattle.ct_geometry.proofs.Usable.{joined_of}
@@ -79,3 +81,9 @@ sound_of m sizes is fit a places centre =
     let within = slice_get_within m.centres a (Some places) centre in
     let count = is.centre_count in
     (sizes, fit a (omega arith) places centre)
+
+-- the ends of a double bond are joined to these neighbours
+pub sides_fit : (bonds : List Bond) (k : ℕ) (bond : Bond) (sides : Sides) → slice_get bonds k ≡ Some bond → bond.order ≡ 2 → are_joined bonds bond.first.0 sides.first.0 ≡ true → are_joined bonds bond.second.0 sides.second.0 ≡ true
+    → sides.first.0 ≢ bond.second.0 → sides.second.0 ≢ bond.first.0 → SidesFit bonds k sides
+sides_fit bonds k bond sides at double at_first at_second first second other at_other =
+    subst (λ (b : Bond). IsSides bonds b sides) (let same : bond ≡ other = cc in same) (record { double = double; at_first = at_first; at_second = at_second; first = first; second = second })

@@ -10,7 +10,7 @@ use Rattle.mc_mol.specs.declared.drawing.Point.{Point}
 use Rattle.mc_mol.specs.declared.parts.Bond.{Bond}
 use Rattle.mc_mol.specs.declared.parts.HalfEdge.{HalfEdge}
 use Rattle.mc_mol.specs.declared.parts.Slot.{Slot}
-use Rattle.mc_mol.specs.Molecule.{Molecule, joins, touches}
+use Rattle.mc_mol.specs.Molecule.{Molecule, joins}
 use Rattle.mc_mol.specs.HalfEdges.{half_edges}
 use Rattle.mc_mol.specs.Permutations.{is_even_permutation}
 use Rattle.mc_mol.proofs.Apart.{bonds_rise, joins_touches}

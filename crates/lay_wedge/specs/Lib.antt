@@ -1,3 +1,4 @@
 pub mod Plans
 pub mod Underway
 pub mod Fitting
+pub mod TableRows

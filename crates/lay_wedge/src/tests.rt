@@ -1,5 +1,11 @@
+mod choices;
+mod known_molecules;
 mod molecules;
 mod plain_reading;
 mod planned;
+mod sameness;
+mod sides;
 mod skeletons;
 mod small_graphs;
+mod tables;
+mod thrown;

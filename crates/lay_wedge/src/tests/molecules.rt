@@ -4,32 +4,33 @@ ghost use Rattle.std.specs.List.{list_all, list_any};
 ghost use Rattle.mc_mol.specs.declared.parts.Slot.TheVariants.{At};
 ghost use Rattle.mc_mol.specs.Permutations.{same_slot, stands_in};
 ghost use Rattle.mc_mol.specs.WellFormed.{IsPlaceList};
-ghost use Rattle.mc_rings.specs.Rings.{AreRingsOf};
 ghost use Rattle.lay_wedge.specs.Fitting.{are_different, leads_to, may_be_list};
 
+use crate::tests::choices::sites_of;
 use mc_base::{AtomId, NoMemory};
 use mc_elements::Element;
 use mc_mol::{Atom, Drawing, HalfEdge, Mol, Point, Slot};
-use mc_rings::{Rings, may_be_centre};
 use std::alloc::Global;
 
 /// Two atoms and the order of their bond.
 pub type Joined = (u32, u32, u8);
 
-fn carbon() -> Atom {
+/// A carbon, told from others by its isotope and class.
+fn carbon(number: u32) -> Atom {
     Atom {
         element: Element::C,
-        isotope: 0,
+        isotope: (number % 256) as u16,
         charge: 0,
         hydrogens: 0,
-        class: 0,
+        class: (number % 512) as u16,
     }
 }
 
+/// Carbons that all differ.
 pub fn carbons(alloc: Global, count: u32) -> Result<Mol, NoMemory> {
     let mut mol = Mol::new(alloc);
-    for _ in 0..count {
-        match mol.add_atom(carbon()) {
+    for a in 0..count {
+        match mol.add_atom(carbon(a)) {
             Ok(_) => {}
             Err(_) => return Err(NoMemory),
         }
@@ -169,44 +170,8 @@ pub enum Hand {
     Mirrored,
 }
 
-/// The digits of a choice, three for each of five atoms.
-pub fn hands_of(choice: u32) -> [Hand; 5] {
-    [
-        hand_of(choice),
-        hand_of(choice / 3),
-        hand_of(choice / 9),
-        hand_of(choice / 27),
-        hand_of(choice / 81),
-    ]
-}
-
-fn hand_of(digit: u32) -> Hand {
-    match digit % 3 {
-        0 => Hand::None,
-        1 => Hand::InBondOrder,
-        _ => Hand::Mirrored,
-    }
-}
-
-fn note_candidates(mol: &Mol, rings: &Rings, found: &mut Vec<u32>) -> Result<(), NoMemory>
-    requires { AreRingsOf mol.now rings.now }
-{
-    for a in 0..mol.atom_count() {
-        if may_be_centre(mol, rings, AtomId(a)) {
-            found.push(a)?;
-        }
-    }
-    Ok(())
-}
-
-/// The atoms that may be centres.
-pub fn candidates(alloc: Global, mol: &Mol) -> Result<Vec<u32>, NoMemory> {
-    let mut found = Vec::new(alloc);
-    note_candidates(mol, &Rings::of(alloc, mol)?, &mut found)?;
-    Ok(found)
-}
-
-fn dress_one(mol: &mut Mol, a: AtomId, hand: Hand) {
+/// Makes an atom a centre of this hand, with its neighbours in the order of their bonds or mirrored.
+pub fn make_centre_at(mol: &mut Mol, a: AtomId, hand: Hand) {
     if let Some(places) = in_bond_order(mol, a) {
         let _ = match hand {
             Hand::None => false,
@@ -218,10 +183,10 @@ fn dress_one(mol: &mut Mol, a: AtomId, hand: Hand) {
 
 /// Makes atoms that may be centres such, by these hands in turn.
 pub fn dress(alloc: Global, mol: &mut Mol, hands: &[Hand]) -> Result<(), NoMemory> {
-    let found = candidates(alloc, mol)?;
-    for (k, a) in found.iter().enumerate() {
+    let sites = sites_of(alloc, mol)?;
+    for (k, a) in sites.centres.iter().enumerate() {
         match hands.get(k % hands.len().max(1)) {
-            Some(hand) => dress_one(mol, AtomId(*a), *hand),
+            Some(hand) => make_centre_at(mol, AtomId(*a), *hand),
             None => {}
         }
     }

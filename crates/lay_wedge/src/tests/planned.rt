@@ -8,6 +8,7 @@ ghost use Rattle.lay_wedge.specs.Fitting.{CentreFits};
 use crate::plan;
 use crate::tests::molecules::{carbons, join};
 use crate::tests::plain_reading::reads_plainly;
+use crate::tests::sameness::reads_as_same;
 use ct_geometry::{Wedge, WedgeRead, centre_of_wedges, is_drawn};
 use ct_sd::DrawMark;
 use mc_base::{AtomId, BondId, NoMemory};
@@ -123,11 +124,18 @@ fn reads_back(
 /// Whether a molecule's plan reads back; none where the drawing doesn't serve.
 #[tactic(auto, using(crate::proofs::Started::are_places))]
 pub fn is_right(alloc: Global, mol: &Mol, drawing: &Drawing) -> Result<Option<bool>, NoMemory> {
+    if !is_drawn(mol, drawing) {
+        return Ok(None);
+    }
     let rings = Rings::of(alloc, mol)?;
-    if !is_drawn(mol, drawing) || !are_sound(mol, &rings) {
+    if !are_sound(mol, &rings) {
         return Ok(None);
     }
     let wedges = plan(alloc, mol, drawing)?;
     let wedges = wedges.as_slice();
-    Ok(Some(reads_plainly(mol, drawing, wedges) && reads_back(alloc, mol, drawing, wedges)?))
+    Ok(Some(
+        reads_plainly(mol, drawing, wedges)
+            && reads_back(alloc, mol, drawing, wedges)?
+            && reads_as_same(alloc, mol, drawing, wedges)?,
+    ))
 }

@@ -8,7 +8,7 @@ use std::process::Abort;
 use std::test::Fail;
 
 /// Atom a stands at place a * step of the row, round and round.
-fn row_of(alloc: Global, count: u32, step: u32) -> Result<Vec<u32>, NoMemory> {
+pub fn row_of(alloc: Global, count: u32, step: u32) -> Result<Vec<u32>, NoMemory> {
     let mut row = Vec::new(alloc);
     for a in 0..count {
         row.push(a.wrapping_mul(step) % count.max(1))?;
