@@ -83,7 +83,7 @@ atoms_early : (bonds : List Bond) (k : ℕ) (atoms : List TableAtom) (f : Fault)
 atoms_early bonds k [] f at = absurd at
 atoms_early bonds k (atom ∷ atoms) f at = both_early (faults_at (k + 1) (atom_shows atom (bond_sum bonds k))) (atom_faults bonds (k + 1) atoms) (atom_early atom (bond_sum bonds k) (k + 1)) (atoms_early bonds (k + 1) atoms) f at
 
-limits_early : (table : Table) (kd : Kind) (place : ℕ) → StandsIn (limit_faults table) kd place → number kd < 42
+pub limits_early : (table : Table) (kd : Kind) (place : ℕ) → StandsIn (limit_faults table) kd place → number kd < 42
 limits_early table kd place at = both_early (ring_faults (rings_of table)) (atom_faults (bonds_of table.bonds) 0 table.atoms)
     (shown_early (nat_lt RING_LIMIT (rings_of table)) kind.LimitRings (rings_of table) (omega arith)) (atoms_early (bonds_of table.bonds) 0 table.atoms) (record { kind = kd; place = place }) at
 
@@ -93,7 +93,7 @@ by_limits : (table : Table) (kd : Kind) (place : ℕ) → number kd < 42 → Sta
 by_limits table kind.AmbiguousCentre place less at = absurd (omega arith)
 by_limits table _ place less at = at
 
-limit_stands : (table : Table) (kd : Kind) (place : ℕ) → StandsIn (limit_faults table) kd place → StandsAt table kd place
+pub limit_stands : (table : Table) (kd : Kind) (place : ℕ) → StandsIn (limit_faults table) kd place → StandsAt table kd place
 limit_stands table kind.AmbiguousCentre place at = (let less = limits_early table kind.AmbiguousCentre place at in absurd (omega arith))
 limit_stands table _ place at = at
 

@@ -20,12 +20,23 @@ use Rattle.mc_convert.specs.declared.answer.Answer.{Answer}
 use Rattle.mc_convert.specs.declared.formats.Target.{Target}
 use Rattle.mc_convert.specs.declared.formats.Target.TheVariants.{Smi}
 use Rattle.mc_convert.specs.declared.given.Given.{Given}
-use Rattle.mc_convert.specs.declared.given.Given.TheVariants.{Line as GivenLine, TooLong as GivenLong}
-use Rattle.mc_convert.specs.Records.{IsGiven, Record, Line, TooLong, is_some_text, line, name_in, record_of, record_texts, with_name}
-use Rattle.mc_convert.specs.Answers.{StandsIn, RecordStands, Shows, IsAnswer}
-use Rattle.mc_convert.specs.declared.record_read.RecordRead.TheVariants.{Refused, Stands}
+use Rattle.mc_convert.specs.declared.given.Given.TheVariants.{Line as GivenLine, TooLong as GivenLong, Sd as GivenSd, SdTooLong as GivenSdLong}
+use Rattle.mc_base.specs.declared.ids.AtomId.{AtomId}
+use Rattle.mc_base.specs.declared.refusal.Stop.TheVariants.{Refused as StopRefused}
+use Rattle.mc_base.specs.Shown.{HasReason}
+use Rattle.smi_mean.specs.Sound.{IsSound}
+use Rattle.ct_sd.specs.declared.fault.Fault.{Fault}
+use Rattle.ct_sd.specs.declared.table.Table.{Table as SdTable}
+use Rattle.ct_sd.specs.Faults.{refusal_of}
+use Rattle.ct_geometry.specs.Stands.{StandsAt as StandsInTable}
+use Rattle.mc_convert.specs.Records.{IsGiven, Record, Line, TooLong, Sd, SdTooLong, headers_in, is_some_text, line, name_in, record_of, record_texts, with_name}
+use Rattle.mc_convert.specs.Answers.{StandsIn, RecordStands, IsBarrierOf, Shows, IsAnswer}
+use Rattle.mc_convert.specs.SdRecords.{IsSdReadOf, IsSdRefused, SaysStereo, SdStands, StandsInLines}
+use Rattle.mc_convert.specs.declared.sd_read.SdRead.{SdRead}
+use Rattle.mc_convert.specs.declared.record_read.RecordRead.TheVariants.{Refused, Stands, Table}
+use Rattle.mc_convert.proofs.SdReading.{one_table}
 use Rattle.mc_convert.specs.Accepted.{IsAccepted}
-use Rattle.mc_convert.specs.Findings.{IsTextOf, IsTextKept, IsReadAs}
+use Rattle.mc_convert.specs.Findings.{IsTextOf, IsTextKept, IsReadAs, IsTableRead, NameStands}
 use Rattle.mc_convert.specs.Runs.{IsShown}
 
 -- ---- a written line is one record
@@ -65,7 +76,7 @@ name_text (b ∷ bytes) h = by_test (is_blank b) (text_behind b bytes h) (name_t
     by_test false later name = name
 
 -- a text with nothing behind it
-alone_text : (text : List ℕ) → are_high text ≡ true → IsLineText text
+pub alone_text : (text : List ℕ) → are_high text ≡ true → IsLineText text
 alone_text [] h = record { one = refl; ends = refl }
 alone_text (b ∷ bs) h =
     let both = and_parts (nat_le 33 b) (are_high bs) h in
@@ -117,8 +128,15 @@ with_name_some [] name = refl
 with_name_some (b ∷ bs) [] = refl
 with_name_some (b ∷ bs) (c ∷ cs) = refl
 
-one_record : (text bytes : List ℕ) → are_high text ≡ true → IsLineText bytes → record_texts (line (with_name text (name_of bytes))) ≡ with_name text (name_of bytes) ∷ []
-one_record text bytes high h = one_text (with_name text (name_of bytes)) (with_name_text text (name_of bytes) high (name_text bytes h)) (with_name_some text (name_of bytes))
+one_record : (text name : List ℕ) → are_high text ≡ true → IsLineText name → record_texts (line (with_name text name)) ≡ with_name text name ∷ []
+one_record text name high named = one_text (with_name text name) (with_name_text text name high named) (with_name_some text name)
+
+-- the name of a record that is given is a line's text
+name_given : (given : Given) → IsGiven given → IsLineText (name_in (record_of given))
+name_given (GivenLine text) whole = name_text text.now whole.one
+name_given GivenLong whole = record { one = refl; ends = refl }
+name_given (GivenSd lines) whole = whole
+name_given (GivenSdLong fault) whole = record { one = refl; ends = refl }
 
 -- A text without blanks and a name are read as they were put.
 not_blank : (b : ℕ) → not (is_blank b) ≡ true → is_blank b ≡ false
@@ -163,19 +181,17 @@ parts_of (b ∷ bs) (c ∷ cs) h = text_before (b ∷ bs) (c ∷ cs) h
 line_alone : (bytes text : List ℕ) → record_texts bytes ≡ text ∷ [] → map Line (record_texts bytes) ≡ Line text ∷ []
 line_alone bytes text is = ap (map Line) is
 
-written : (to : Target) (k : ℕ) (given : Given) (m : Molecule) (answer : Answer) → IsGiven given → RecordStands (record_of given) m → IsAccepted to k m (name_in (record_of given)) answer
-    → IsAnswer to k (record_of given) record { out = answer.out; report = answer.report }
-written Smi k GivenLong m answer given stands a = absurd stands
-written Smi k (GivenLine text) m answer given stands a =
-    let bytes = text.now in
+written : (to : Target) (k : ℕ) (given : Record) (m : Molecule) (answer : Answer) → IsLineText (name_in given) → RecordStands given m → IsAccepted to k m (name_in given) (headers_in given) answer
+    → IsAnswer to k given record { out = answer.out; report = answer.report }
+written Smi k given m answer named stands a =
     let back = a.reads in
-    let parts = parts_of (written_text m) (name_of bytes) (no_blanks (written_text m) a.no_blanks) in
+    let parts = parts_of (written_text m) (name_in given) (no_blanks (written_text m) a.no_blanks) in
     inl (record {
       input = m;
       output = back.molecule;
       stands = stands;
       form = a.out;
-      one_record = line_alone answer.out (with_name (written_text m) (name_of bytes)) (ap record_texts a.out ∙ one_record (written_text m) bytes a.no_blanks given.one);
+      one_record = line_alone answer.out (with_name (written_text m) (name_in given)) (ap record_texts a.out ∙ one_record (written_text m) (name_in given) a.no_blanks named);
       name = parts.1;
       reads = subst (λ (x : List ℕ). SmilesStands x back.molecule) (sym parts.0) back.reads;
       only = λ other h. back.only other (subst (λ (x : List ℕ). SmilesStands x other) parts.0 h);
@@ -184,22 +200,51 @@ written Smi k (GivenLine text) m answer given stands a =
     })
 
 -- an accepted record isn't refused
-accepted_is : (to : Target) (k : ℕ) (m : Molecule) (name : List ℕ) (answer : Answer) → IsAccepted to k m name answer → answer.refused ≡ false
-accepted_is Smi k m name answer a = a.accepted
+accepted_is : (to : Target) (k : ℕ) (m : Molecule) (name : List ℕ) (headers : ℕ) (answer : Answer) → IsAccepted to k m name headers answer → answer.refused ≡ false
+accepted_is Smi k m name headers answer a = a.accepted
+
+-- no kind stands in the lines of a record that stands for a molecule
+none_stands : (lines : List (List ℕ)) (m : Molecule) (kind : Kind) (place : ℕ) → SdStands lines m → StandsInLines lines kind place → ⊥
+none_stands lines m kind place is (inl here) = is.given.accepted kind place here
+none_stands lines m kind place is (inr (inl (table, given, stands))) =
+    is.stands.accepted kind place (subst (λ (t : SdTable). StandsInTable t kind place) (one_table lines table is.table given is.given) stands)
+none_stands lines m kind place is (inr (inr later)) =
+    let (table, given, none, says) = later.2 in is.built (subst SaysStereo (one_table lines table is.table given is.given) says)
+
+-- a line has no headers
+no_headers : (given : Record) (at : Span) → NameStands given at → 0 ≡ headers_in given
+no_headers (Line text) at named = refl
+no_headers TooLong at named = absurd named
+no_headers (Sd lines) at named = absurd named
+no_headers (SdTooLong fault) at named = absurd named
 
 -- a record that stands for a molecule shows no refusal
 pub not_shown : (to : Target) (given : Record) (m : Molecule) → RecordStands given m → IsShown to given → ⊥
 not_shown to TooLong m stands shown = stands
 not_shown to (Line text) m stands (refusal, shows) = stands.accepted refusal.kind refusal.place shows.stands
+not_shown to (Sd lines) m stands (refusal, shows) = none_stands lines m refusal.kind refusal.place stands shows.stands
+not_shown to (SdTooLong fault) m stands shown = stands
 
 pub is_written : (to : Target) (k : ℕ) (given : Given) (m : Molecule) (skeleton : TextGraph) (at : Span) (name : List ℕ) (answer : Answer) → IsGiven given → IsReadAs (record_of given) (Stands m skeleton at) → name ≡ name_in (record_of given)
-    → IsAccepted to k m name answer → IsAnswer to k (record_of given) record { out = answer.out; report = answer.report }
+    → IsAccepted to k m name 0 answer → IsAnswer to k (record_of given) record { out = answer.out; report = answer.report }
 is_written to k given m skeleton at name answer whole read named a =
-    written to k given m answer whole read.stands (subst (λ (x : List ℕ). IsAccepted to k m x answer) named a)
+    written to k (record_of given) m answer (name_given given whole) read.stands
+    (subst (λ (x : ℕ). IsAccepted to k m (name_in (record_of given)) x answer) (no_headers (record_of given) at read.name_is) (subst (λ (x : List ℕ). IsAccepted to k m x 0 answer) named a))
 
-pub none_shown : (to : Target) (k : ℕ) (given : Record) (m : Molecule) (skeleton : TextGraph) (at : Span) (name : List ℕ) (answer : Answer) → IsReadAs given (Stands m skeleton at) → IsAccepted to k m name answer → IsTrue answer.refused ↔ IsShown to given
+pub table_written : (to : Target) (k : ℕ) (given : Given) (m : Molecule) (own name : List ℕ) (headers : ℕ) (answer : Answer) → IsGiven given → IsTableRead (record_of given) m own headers → name ≡ own
+    → IsAccepted to k m name headers answer → IsAnswer to k (record_of given) record { out = answer.out; report = answer.report }
+table_written to k given m own name headers answer whole is named a =
+    written to k (record_of given) m answer (name_given given whole) is.stands
+    (subst (λ (x : ℕ). IsAccepted to k m (name_in (record_of given)) x answer) is.headers_are (subst (λ (x : List ℕ). IsAccepted to k m x headers answer) (named ∙ is.name_is) a))
+
+pub table_none_shown : (to : Target) (k : ℕ) (given : Record) (m : Molecule) (own name : List ℕ) (headers : ℕ) (answer : Answer) → IsTableRead given m own headers → IsAccepted to k m name headers answer
+    → IsTrue answer.refused ↔ IsShown to given
+table_none_shown to k given m own name headers answer is a =
+    (λ on. absurd (false≢true (sym (accepted_is to k m name headers answer a) ∙ on)), λ shown. absurd (not_shown to given m is.stands shown))
+
+pub none_shown : (to : Target) (k : ℕ) (given : Record) (m : Molecule) (skeleton : TextGraph) (at : Span) (name : List ℕ) (answer : Answer) → IsReadAs given (Stands m skeleton at) → IsAccepted to k m name 0 answer → IsTrue answer.refused ↔ IsShown to given
 none_shown to k given m skeleton at name answer read a =
-    (λ on. absurd (false≢true (sym (accepted_is to k m name answer a) ∙ on)), λ shown. absurd (not_shown to given m read.stands shown))
+    (λ on. absurd (false≢true (sym (accepted_is to k m name 0 answer a) ∙ on)), λ shown. absurd (not_shown to given m read.stands shown))
 
 -- a refusal that is shown is an answer
 pub is_refused : (to : Target) (k : ℕ) (given : Record) (refusal : Refusal) (skeleton : Option TextGraph) (answer : Answer) → IsReadAs given (Refused refusal skeleton) → answer ≡ record { out = []; report = refused_line k refusal; refused = true }
@@ -224,18 +269,55 @@ long_shown to = record { stands = refl; least = λ place h. omega arith; first =
     none_first _ place less h = h
 
 pub long_read : IsReadAs TooLong (Refused long_refusal None)
-long_read = record { shows = long_shown; text = tt }
+long_read = record { shows = long_shown; text = λ e. absurd cc }
+
+-- ---- a record of an SD file
+
+-- one that is too long
+pub long_sd_read : (fault : Fault) (refusal : Refusal) → refusal ≡ refusal_of fault → IsReadAs (SdTooLong fault) (Refused refusal None)
+long_sd_read fault refusal is = subst (λ (r : Refusal). IsReadAs (SdTooLong fault) (Refused r None)) (sym is) (record { shows = shows; text = refl })
+  where
+    no_barrier : (IsBarrier : List AtomId → ℕ → Type 0) (kind : Kind) → IsBarrier [] 0 → HasReason IsBarrier kind [] 0
+    no_barrier IsBarrier NoPlacement is = is
+    no_barrier IsBarrier _ is = (refl, refl)
+
+    shows : (to : Target) → Shows to (SdTooLong fault) (refusal_of fault)
+    shows to = record {
+      stands = inl refl;
+      least = λ place stands. elim stands [
+        | inl here ↦ (let e = ap (λ (f : Fault). f.place) here in omega arith)
+        | inr none ↦ absurd none
+      ];
+      first = λ kind place less stands. elim stands [
+        | inl here ↦ (let e = ap (λ (f : Fault). number f.kind) here in omega arith)
+        | inr none ↦ absurd none
+      ];
+      reason = no_barrier (IsBarrierOf to (SdTooLong fault)) fault.kind (refl, refl);
+    }
+
+pub table_refused : (lines : List (List ℕ)) (refusal : Refusal) → IsSdRefused lines (StopRefused refusal) → IsReadAs (Sd lines) (Refused refusal None)
+table_refused lines refusal is = record { shows = λ to. record { stands = is.stands; least = is.least; first = is.first; reason = is.reason }; text = refl }
+
+pub table_read : (lines : List (List ℕ)) (read : SdRead) → IsSdReadOf lines read → IsSound read.ct.mol → IsReadAs (Sd lines) (Table read.ct.mol read.name read.headers)
+table_read lines read is sound = record {
+  stands = record { table = is.table; given = is.given; built = is.built; stands = is.is.stands };
+  sound = sound;
+  no_text = λ has. has;
+  compare = λ output map v compared. compared;
+  name_is = is.name;
+  headers_are = is.headers;
+}
 
 -- ---- a line that is refused
 
 -- a kind that keeps no text
-pub other_read : (given : Record) (refusal : Refusal) → ((to : Target) → Shows to given refusal) → (refusal.kind ≡ NoPlacement → ⊥) → IsReadAs given (Refused refusal None)
-other_read given refusal shows other = record { shows = shows; text = kept refusal.kind other }
+pub other_read : (text : List ℕ) (refusal : Refusal) → ((to : Target) → Shows to (Line text) refusal) → (refusal.kind ≡ NoPlacement → ⊥) → IsReadAs (Line text) (Refused refusal None)
+other_read text refusal shows other = record { shows = shows; text = kept refusal.kind other }
   where
-    kept : (kind : Kind) → (kind ≡ NoPlacement → ⊥) → IsTextKept given kind None
+    kept : (kind : Kind) → (kind ≡ NoPlacement → ⊥) → IsTextKept (Line text) kind None
     kept NoPlacement not = absurd (not refl)
     kept _ not = tt
 
-pub unplaced_read : (given : Record) (refusal : Refusal) (skeleton : TextGraph) → ((to : Target) → Shows to given refusal) → refusal.kind ≡ NoPlacement → IsTextOf given skeleton
-    → IsReadAs given (Refused refusal (Some skeleton))
-unplaced_read given refusal skeleton shows kind text = record { shows = shows; text = subst (λ (k : Kind). IsTextKept given k (Some skeleton)) (sym kind) text }
+pub unplaced_read : (text : List ℕ) (refusal : Refusal) (skeleton : TextGraph) → ((to : Target) → Shows to (Line text) refusal) → refusal.kind ≡ NoPlacement → IsTextOf (Line text) skeleton
+    → IsReadAs (Line text) (Refused refusal (Some skeleton))
+unplaced_read text refusal skeleton shows kind is = record { shows = shows; text = subst (λ (k : Kind). IsTextKept (Line text) k (Some skeleton)) (sym kind) is }

@@ -1,6 +1,6 @@
 -- One original with its line of the report.
-use Rattle.std.proofs.Common.{◌≡◌, ◌∙◌, ◌<◌, ℕ, Bool, true, false, List, length, Option, Some, None, refl, ap, sym, subst, inl, inr}
-use Rattle.std.specs.Prelude.{◌↔◌, IsTrue, slice_get}
+use Rattle.std.proofs.Common.{◌≡◌, ◌∙◌, ◌<◌, ℕ, Bool, true, false, List, [], length, Option, Some, None, refl, ap, sym, subst, inl, inr}
+use Rattle.std.specs.Prelude.{◌↔◌, ◌⊎◌, IsTrue, slice_get}
 use Rattle.std.proofs.lemmas.Bool.{false≢true}
 use Rattle.std.proofs.lemmas.Option.{slice_get_within}
 use Rattle.mc_base.specs.declared.ids.AtomId.{AtomId}
@@ -17,6 +17,8 @@ use Rattle.smi_graph.specs.Skeletons.{TextGraph}
 use Rattle.smi_mean.specs.Barriers.{IsBarrierIn}
 use Rattle.smi_mean.specs.Lines.{text_of}
 use Rattle.smi_mean.proofs.PlacedBonds.{bond_at}
+use Rattle.smi_mean.proofs.CentresMarked.{sound_fits}
+use Rattle.mc_same.specs.Differences.{IsVerdict}
 use Rattle.mc_same.specs.Stands.{IsStandsVerdict}
 use Rattle.mc_report.specs.declared.report_line.ReportLine.{ReportLine}
 use Rattle.mc_report.specs.declared.report_line.ReportLine.TheVariants.{Ok as OkLine, Refused as RefusedLine}
@@ -24,14 +26,15 @@ use Rattle.mc_report.specs.Grammar.{number_of}
 use Rattle.mc_io.specs.Lines.{lines_of}
 use Rattle.mc_convert.specs.declared.formats.Target.{Target}
 use Rattle.mc_convert.specs.Formats.{read_back}
-use Rattle.mc_convert.specs.Records.{Record, Line as RecordLine, TooLong as RecordLong}
+use Rattle.mc_convert.specs.Records.{Record, Line as RecordLine, TooLong as RecordLong, Sd as RecordSd, SdTooLong as RecordSdLong}
 use Rattle.mc_convert.specs.declared.finding.Finding.{Finding}
 use Rattle.mc_convert.specs.declared.finding.Finding.TheVariants.{Input, Map, Output, Report}
 use Rattle.mc_convert.specs.declared.record_read.RecordRead.{RecordRead}
-use Rattle.mc_convert.specs.declared.record_read.RecordRead.TheVariants.{Refused, Stands}
+use Rattle.mc_convert.specs.declared.record_read.RecordRead.TheVariants.{Refused, Stands, Table}
 use Rattle.mc_convert.specs.Records.{records}
-use Rattle.mc_convert.specs.Answers.{IsBarrierOf}
-use Rattle.mc_convert.specs.Findings.{Says, IsTextOf, IsTextKept, HasCandidate, IsMapFinding, IsReadAs, IsReadRefused, IsRefusalFinding, AreReadAs}
+use Rattle.mc_convert.specs.Answers.{IsBarrierOf, RecordStands}
+use Rattle.mc_convert.specs.Runs.{IsShown}
+use Rattle.mc_convert.specs.Findings.{Says, CompareOriginal, IsTextOf, IsTextKept, HasCandidate, IsMapFinding, IsRead, IsReadAs, MarksFit, IsReadRefused, IsTableRead, IsRefusalFinding, AreReadAs}
 use Rattle.mc_convert.specs.Checks.{first}
 use Rattle.mc_convert.specs.CheckSteps.{ReadsNext, SaidNext, FindsNext}
 
@@ -137,14 +140,15 @@ refused_input to given next refusal skeleton map is = (refusal, is.shows to)
 pub read_refused : (given : Record) (read : RecordRead) (refusal : Refusal) (skeleton : Option TextGraph) → read ≡ Refused refusal skeleton → IsReadAs given read → IsReadRefused given refusal skeleton
 read_refused given read refusal skeleton is reads = subst (λ (r : RecordRead). IsReadAs given r) is reads
 
-pub refused_output : (to : Target) (given next : Record) (m : Molecule) (skeleton : TextGraph) (name : Span) (refusal : Refusal) (other : Option TextGraph) (map : List AtomId)
-    → IsReadAs given (Stands m skeleton name) → IsReadAs next (Refused refusal other) → IsMapFinding to given (Some next) map Output
-refused_output to given next m skeleton name refusal other map is also = record { input = m; stands = is.stands; shown = inl (refusal, also.shows to) }
+pub output_refused : (to : Target) (next : Record) (read : RecordRead) (refusal : Refusal) (skeleton : Option TextGraph) → read ≡ Refused refusal skeleton → IsReadAs next read → IsShown to next ⊎ HasCandidate next
+output_refused to next read refusal skeleton is reads = inl (refusal, (read_refused next read refusal skeleton is reads).shows to)
 
 -- candidates of a record, by those that are marked in its skeleton
 
 candidate_of : (next : Record) (written : TextGraph) → IsTextOf next written → (k : ℕ) → k < length written.bonds → marked written.candidates k ≡ true → HasCandidate next
 candidate_of RecordLong written text k less at = absurd text
+candidate_of (RecordSd lines) written text k less at = absurd text
+candidate_of (RecordSdLong fault) written text k less at = absurd text
 candidate_of (RecordLine bytes) written text k less at =
     let (b, there) = bond_at written.bonds k less in
     let is : IsCandidate written.atoms written.bonds b = (text.limits.candidates k b there).0 at in (
@@ -156,29 +160,74 @@ candidate_of (RecordLine bytes) written text k less at =
 
 plain_of : (next : Record) (written : TextGraph) → IsTextOf next written → ((k : ℕ) → k < length written.bonds → marked written.candidates k ≡ false) → HasCandidate next → ⊥
 plain_of RecordLong written text none has = text
+plain_of (RecordSd lines) written text none has = text
+plain_of (RecordSdLong fault) written text none has = text
 plain_of (RecordLine bytes) written text none (k, b, at, is) =
     let there : slice_get written.bonds k ≡ Some b = ap (λ (x : List TextBond). slice_get x k) text.bonds ∙ at in
     let here : IsCandidate written.atoms written.bonds b =
     subst (λ (x : List SkelAtom). IsCandidate x written.bonds b) (sym text.atoms) (subst (λ (x : List TextBond). IsCandidate (atoms_in (text_of bytes)) x b) (sym text.bonds) is) in
     false≢true (sym (none k (slice_get_within written.bonds k b there)) ∙ (text.limits.candidates k b there).1 here)
 
-pub candidate_output : (to : Target) (given next : Record) (m n : Molecule) (skeleton written : TextGraph) (name other : Span) (map : List AtomId) → IsReadAs given (Stands m skeleton name)
-    → IsReadAs next (Stands n written other) → (k : ℕ) × (k < length written.bonds) × (marked written.candidates k ≡ true) → IsMapFinding to given (Some next) map Output
-candidate_output to given next m n skeleton written name other map is also (k, less, at) =
-    record { input = m; stands = is.stands; shown = inr (candidate_of next written also.text k less at) }
+-- a record that is read as a text, or as a table
+read_text : (given : Record) (read : RecordRead) (m : Molecule) (skeleton : TextGraph) (name : Span) → read ≡ Stands m skeleton name → IsReadAs given read → IsRead given m skeleton name
+read_text given read m skeleton name is reads = subst (λ (r : RecordRead). IsReadAs given r) is reads
 
-pub both_read : (to : Target) (given next : Record) (m n : Molecule) (skeleton written : TextGraph) (name other : Span) (map : List AtomId) (v : Verdict) → IsReadAs given (Stands m skeleton name)
-    → IsReadAs next (Stands n written other) → ((k : ℕ) → k < length written.bonds → marked written.candidates k ≡ false) → IsStandsVerdict skeleton n map v → IsMapFinding to given (Some next) map (Map v)
-both_read to given next m n skeleton written name other map v is also none compared = record {
-  skeleton = skeleton;
+pub read_table : (given : Record) (read : RecordRead) (m : Molecule) (name : List ℕ) (headers : ℕ) → read ≡ Table m name headers → IsReadAs given read → IsTableRead given m name headers
+read_table given read m name headers is reads = subst (λ (r : RecordRead). IsReadAs given r) is reads
+
+pub output_candidate : (to : Target) (next : Record) (read : RecordRead) (m : Molecule) (skeleton : TextGraph) (name : Span) → read ≡ Stands m skeleton name → IsReadAs next read
+    → (k : ℕ) × (k < length skeleton.bonds) × (marked skeleton.candidates k ≡ true) → IsShown to next ⊎ HasCandidate next
+output_candidate to next read m skeleton name is reads (k, less, at) = inr (candidate_of next skeleton (read_text next read m skeleton name is reads).text k less at)
+
+pub output_text : (next : Record) (read : RecordRead) (m : Molecule) (skeleton : TextGraph) (name : Span) → read ≡ Stands m skeleton name → IsReadAs next read
+    → ((k : ℕ) → k < length skeleton.bonds → marked skeleton.candidates k ≡ false) → RecordStands next m × (HasCandidate next → ⊥)
+output_text next read m skeleton name is reads none =
+    let r = read_text next read m skeleton name is reads in (r.stands, plain_of next skeleton r.text none)
+
+pub output_table : (next : Record) (read : RecordRead) (m : Molecule) (name : List ℕ) (headers : ℕ) → read ≡ Table m name headers → IsReadAs next read → RecordStands next m × (HasCandidate next → ⊥)
+output_table next read m name headers is reads = let r = read_table next read m name headers is reads in (r.stands, r.no_text)
+
+-- what is found of an original that is read, where the converted record can't be compared, and where it can
+
+pub no_output : (to : Target) (given next : Record) (m : Molecule) (map : List AtomId) → RecordStands given m → IsShown to next ⊎ HasCandidate next → IsMapFinding to given (Some next) map Output
+no_output to given next m map stands shown = record { input = m; stands = stands; shown = shown }
+
+text_compared : (given : Record) (skeleton : TextGraph) (m n : Molecule) (map : List AtomId) (v : Verdict) → IsTextOf given skeleton → IsStandsVerdict skeleton n map v → CompareOriginal given m n map v
+text_compared RecordLong skeleton m n map v text is = text
+text_compared (RecordSd lines) skeleton m n map v text is = absurd text
+text_compared (RecordSdLong fault) skeleton m n map v text is = text
+text_compared (RecordLine bytes) skeleton m n map v text is = record { skeleton = skeleton; text_is = text; is = is }
+
+pub text_found : (to : Target) (given next : Record) (m n : Molecule) (skeleton : TextGraph) (name : Span) (map : List AtomId) (v : Verdict) → IsRead given m skeleton name → RecordStands next n × (HasCandidate next → ⊥)
+    → IsStandsVerdict skeleton n map v → IsMapFinding to given (Some next) map (Map v)
+text_found to given next m n skeleton name map v is (stands, plain) compared = record {
   input = m;
   output = n;
   input_stands = is.stands;
-  text = is.text;
-  output_stands = also.stands;
-  plain = plain_of next written also.text none;
-  is = compared;
+  output_stands = stands;
+  plain = plain;
+  is = text_compared given skeleton m n map v is.text compared;
 }
+
+pub table_found : (to : Target) (given next : Record) (m n : Molecule) (name : List ℕ) (headers : ℕ) (map : List AtomId) (v : Verdict) → IsTableRead given m name headers → RecordStands next n × (HasCandidate next → ⊥)
+    → IsVerdict m n map v → IsMapFinding to given (Some next) map (Map v)
+table_found to given next m n name headers map v is (stands, plain) compared = record {
+  input = m;
+  output = n;
+  input_stands = is.stands;
+  output_stands = stands;
+  plain = plain;
+  is = is.compare n map v compared;
+}
+
+-- a record that is read has marks that fit
+pub marks_read : (given : Record) (read : RecordRead) → IsReadAs given read → MarksFit read
+marks_read given (Refused refusal skeleton) is = tt
+marks_read given (Table m name headers) is = tt
+marks_read RecordLong (Stands m skeleton name) is = absurd is.text
+marks_read (RecordSd lines) (Stands m skeleton name) is = absurd is.text
+marks_read (RecordSdLong fault) (Stands m skeleton name) is = absurd is.text
+marks_read (RecordLine bytes) (Stands m skeleton name) is = λ k less. sound_fits (text_of bytes) skeleton m k is.text is.stands.molecule is.sound
 
 -- ---- barriers
 
@@ -186,15 +235,22 @@ pub barrier_shown : (to : Target) (given : Record) (skeleton : Option TextGraph)
     → (IsTrue right ↔ IsBarrierIn graph.atoms graph.bonds barrier odd) → IsTrue right ↔ IsBarrierOf to given barrier odd
 barrier_shown to given skeleton graph barrier odd right is kept decides = by_record given (subst (λ (x : Option TextGraph). IsTextKept given NoPlacement x) is kept)
   where
-    by_record : (given : Record) → IsTextOf given graph → IsTrue right ↔ IsBarrierOf to given barrier odd
-    by_record RecordLong text = absurd text
+    by_record : (given : Record) → IsTextKept given NoPlacement (Some graph) → IsTrue right ↔ IsBarrierOf to given barrier odd
+    by_record RecordLong text = absurd (text refl)
+    by_record (RecordSd lines) text = absurd cc
+    by_record (RecordSdLong fault) text = absurd cc
     by_record (RecordLine bytes) text = (
       (λ on. subst (λ (x : List TextBond). IsBarrierIn (atoms_in (text_of bytes)) x barrier odd) text.bonds (subst (λ (x : List SkelAtom). IsBarrierIn x graph.bonds barrier odd) text.atoms (decides.0 on))),
       (λ by. decides.1 (subst (λ (x : List SkelAtom). IsBarrierIn x graph.bonds barrier odd) (sym text.atoms) (subst (λ (x : List TextBond). IsBarrierIn (atoms_in (text_of bytes)) x barrier odd) (sym text.bonds) by))),
     )
 
-pub no_text : (given : Record) (skeleton : Option TextGraph) → skeleton ≡ None → IsTextKept given NoPlacement skeleton → ⊥
-no_text given skeleton is kept = gone (subst (λ (x : Option TextGraph). IsTextKept given NoPlacement x) is kept)
+-- without a text there is no barrier
+pub no_text : (to : Target) (given : Record) (skeleton : Option TextGraph) (barrier : List AtomId) (odd : ℕ) (right : Bool) → skeleton ≡ None → IsTextKept given NoPlacement skeleton
+    → (IsTrue right ↔ ((barrier ≡ []) × (odd ≡ 0))) → IsTrue right ↔ IsBarrierOf to given barrier odd
+no_text to given skeleton barrier odd right is kept decides = by_record given (subst (λ (x : Option TextGraph). IsTextKept given NoPlacement x) is kept)
   where
-    gone : IsTextKept given NoPlacement None → ⊥
-    gone h = h
+    by_record : (given : Record) → IsTextKept given NoPlacement None → IsTrue right ↔ IsBarrierOf to given barrier odd
+    by_record RecordLong text = absurd (text refl)
+    by_record (RecordSd lines) text = decides
+    by_record (RecordSdLong fault) text = decides
+    by_record (RecordLine bytes) text = absurd text

@@ -15,20 +15,22 @@ use Rattle.smi_graph.specs.declared.skel_atom.SkelAtom.{SkelAtom}
 use Rattle.smi_graph.specs.declared.text_bond.TextBond.{TextBond}
 use Rattle.smi_graph.specs.Candidates.{AreCandidates}
 use Rattle.smi_graph.specs.Rules.{atoms_in, text_bonds_in}
-use Rattle.smi_graph.specs.Skeletons.{TextGraph, IsSkeleton}
+use Rattle.smi_graph.specs.Skeletons.{TextGraph}
 use Rattle.smi_mean.proofs.PlacedBonds.{plain_molecule}
-use Rattle.mc_same.specs.Stands.{IsStandsVerdict}
-use Rattle.mc_same.proofs.OneVerdict.{stands_once, stands_of_text}
+use Rattle.smi_mean.proofs.CentresRead.{centres_read}
+use Rattle.mc_same.specs.Differences.{IsVerdict}
+use Rattle.mc_same.proofs.OneVerdict.{stands_once, stands_of_text, verdict_once}
 use Rattle.mc_convert.specs.declared.formats.Formats.{Formats}
 use Rattle.mc_convert.specs.declared.formats.Target.{Target}
-use Rattle.mc_convert.specs.Records.{Record, Line, TooLong}
+use Rattle.mc_convert.specs.Records.{Record, Line, TooLong, Sd, SdTooLong}
+use Rattle.mc_convert.proofs.SdReading.{table_once}
 use Rattle.mc_convert.proofs.Answering.{not_shown}
 use Rattle.mc_convert.specs.declared.finding.Finding.{Finding}
 use Rattle.mc_convert.specs.declared.finding.Finding.TheVariants.{Map, Shown, Report, Missing, Input, Output, Refusal as NotShown}
 use Rattle.mc_convert.specs.Answers.{RecordStands}
 use Rattle.mc_convert.specs.Runs.{IsShown}
 use Rattle.mc_convert.specs.Checks.{first, Remaining, Leaves, FindsOne, Finds, is_extra, verdict_lines, extra_line, extra_text, at_first, IsCheckText, IsAllTrue}
-use Rattle.mc_convert.specs.Findings.{Says, IsTextOf, HasCandidate, Compare, IsMapFinding, IsRefusalFinding, IsFinding, is_true, verdict_line}
+use Rattle.mc_convert.specs.Findings.{Says, HasCandidate, Compare, CompareOriginal, IsMapFinding, IsRefusalFinding, IsFinding, is_true, verdict_line}
 use Rattle.mc_convert.specs.Records.{records}
 
 -- a line says one thing of a record
@@ -40,18 +42,26 @@ says_once k (Some (Some text)) s t is also = spelled_once s t text is.0 also.0
 -- a record without a candidate stands for one molecule
 plain_once : (given : Record) (m n : Molecule) → (HasCandidate given → ⊥) → RecordStands given m → RecordStands given n → m ≡ n
 plain_once TooLong m n plain is also = absurd is
+plain_once (Sd lines) m n plain is also = table_once lines m n is also
+plain_once (SdTooLong fault) m n plain is also = absurd is
 plain_once (Line bytes) m n plain is also = plain_molecule (text_of bytes) m n (λ k b at candidate. plain (k, b, at, candidate)) is.molecule also.molecule
 
-verdict_once : (original : Record) (s t : TextGraph) (n : Molecule) (map : List AtomId) (v w : Verdict) → IsTextOf original s → IsTextOf original t → IsStandsVerdict s n map v → IsStandsVerdict t n map w → v ≡ w
-verdict_once TooLong s t n map v w of_s of_t is also = absurd of_s
-verdict_once (Line bytes) s t n map v w of_s of_t is also =
-    stands_once s n map v w is (stands_of_text t s n map w (of_t.atoms ∙ sym of_s.atoms) (of_t.bonds ∙ sym of_s.bonds) of_t.limits.candidates of_s.limits.candidates also)
+original_once : (original : Record) (m n p : Molecule) (map : List AtomId) (v w : Verdict) → RecordStands original m → RecordStands original n → CompareOriginal original m p map v → CompareOriginal original n p map w → v ≡ w
+original_once TooLong m n p map v w of_m of_n is also = absurd is
+original_once (SdTooLong fault) m n p map v w of_m of_n is also = absurd is
+original_once (Sd lines) m n p map v w of_m of_n is also =
+    verdict_once m p map v w is (subst (λ (x : Molecule). IsVerdict x p map w) (table_once lines n m of_n of_m) also)
+original_once (Line bytes) m n p map v w of_m of_n a b =
+    let s = a.skeleton in
+    let t = b.skeleton in
+    stands_once s p map v w a.is (stands_of_text t s p map w (b.text_is.atoms ∙ sym a.text_is.atoms) (b.text_is.bonds ∙ sym a.text_is.bonds)
+    (centres_read (text_of bytes) t b.text_is ∙ sym (centres_read (text_of bytes) s a.text_is)) b.text_is.limits.candidates a.text_is.limits.candidates b.is)
 
 -- two records compare in one way under a map
 compare_once : (original converted : Record) (map : List AtomId) (v w : Verdict) → Compare original converted map v → Compare original converted map w → v ≡ w
 compare_once original converted map v w a b =
     let output : b.output ≡ a.output = plain_once converted b.output a.output b.plain b.output_stands a.output_stands in
-    verdict_once original a.skeleton b.skeleton a.output map v w a.text b.text a.is (subst (λ (m : Molecule). IsStandsVerdict b.skeleton m map w) output b.is)
+    original_once original a.input b.input a.output map v w a.input_stands b.input_stands a.is (subst (λ (m : Molecule). CompareOriginal original b.input m map w) output b.is)
 
 -- with no converted record left there is one finding
 none_left : (to : Target) (original : Record) (map : List AtomId) (f : Finding) → IsMapFinding to original None map f → f ≡ Missing

@@ -15,3 +15,5 @@ pub mod Ended
 pub mod SameRefusal
 pub mod Stops
 pub mod Promised
+pub mod SdReading
+pub mod DrawnStereo

@@ -3,7 +3,7 @@ use Rattle.std.proofs.Common.{arith, ◌≡◌, ◌∙◌, ◌==◌, ℕ, ◌+�
 use Rattle.mc_report.specs.Report.{line_ends, line_end, IsOneLine}
 use Rattle.mc_report.proofs.OneLine.{ends_append, one_end, ok_one_line, refused_one_line}
 use Rattle.mc_convert.specs.declared.formats.Target.{Target}
-use Rattle.mc_convert.specs.Records.{Record}
+use Rattle.mc_convert.specs.Records.{Record, headers_in}
 use Rattle.mc_convert.specs.Answers.{Reply, written_atoms, IsWritten, IsRefusedFor, IsAnswer, Answers, reports, IsPartOf}
 use Rattle.mc_io.specs.Outside.{Outputs}
 use Rattle.mc_convert.specs.Runs.{HoldsLess}
@@ -15,7 +15,7 @@ refused_one to k text reply a =
 -- the report line of a record that is written
 written_one : (to : Target) (k : ℕ) (given : Record) (reply : Reply) → IsWritten to k given reply → IsOneLine reply.report
 written_one to k given reply a =
-    let said = ok_one_line k 0 0 0 (written_atoms to a.input) in record { text = said.text; ends = a.report ∙ said.ends; one = said.one }
+    let said = ok_one_line k 0 0 (headers_in given) (written_atoms to a.input) in record { text = said.text; ends = a.report ∙ said.ends; one = said.one }
 
 pub one_line : (to : Target) (k : ℕ) (given : Record) (reply : Reply) → IsAnswer to k given reply → IsOneLine reply.report
 one_line to k given reply (inl a) = written_one to k given reply a

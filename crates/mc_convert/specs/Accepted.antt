@@ -10,13 +10,13 @@ use Rattle.mc_convert.specs.declared.formats.Target.{Target}
 use Rattle.mc_convert.specs.declared.formats.Target.TheVariants.{Smi}
 use Rattle.mc_convert.specs.Records.{line, with_name}
 
--- in SMILES: the written form with this name, and its report line, and that it is read back
-pub record IsSmiles (k : ℕ) (m : Molecule) (name : List ℕ) (answer : Answer) : Type 0 where
+-- in SMILES: the written form with this name, and its report line with the number of headers, and that it is read back
+pub record IsSmiles (k : ℕ) (m : Molecule) (name : List ℕ) (headers : ℕ) (answer : Answer) : Type 0 where
   pub out : answer.out ≡ line (with_name (written_text m) name)
-  pub report : answer.report ≡ ok_line k (written_order m) 0 0 0
+  pub report : answer.report ≡ ok_line k (written_order m) 0 0 headers
   pub accepted : answer.refused ≡ false
   pub no_blanks : list_all (λ byte. nat_le 33 byte) (written_text m) ≡ true
   pub reads : IsReadBack m (written_text m) (written_order m)
 
-abbrev pub IsAccepted : Target → ℕ → Molecule → List ℕ → Answer → Type 0
-IsAccepted Smi k m name answer = IsSmiles k m name answer
+abbrev pub IsAccepted : Target → ℕ → Molecule → List ℕ → ℕ → Answer → Type 0
+IsAccepted Smi k m name headers answer = IsSmiles k m name headers answer

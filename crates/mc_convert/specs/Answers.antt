@@ -14,24 +14,30 @@ use Rattle.smi_mean.specs.Rules.{StandsAt, SmilesStands}
 use Rattle.smi_mean.specs.Written.{written_text, written_order}
 use Rattle.mc_convert.specs.declared.formats.Target.{Target}
 use Rattle.mc_convert.specs.declared.formats.Target.TheVariants.{Smi}
-use Rattle.mc_convert.specs.Records.{Record, Line, TooLong, line, name_in, record_texts, with_name}
+use Rattle.ct_sd.specs.Faults.{IsNoBarrier, StandsIn as StandsAmong}
+use Rattle.mc_convert.specs.Records.{Record, Line, TooLong, Sd, SdTooLong, headers_in, line, name_in, record_texts, with_name}
+use Rattle.mc_convert.specs.SdRecords.{SdStands, StandsInLines}
 
 -- what is written for a record: at output 0, and at output 1
 pub record Reply : Type 0 where
   pub out : List ℕ
   pub report : List ℕ
 
--- A kind stands at a place of a record that is to be written in a target: of the text of a line, or of a line that is too
--- long, which isn't read further.
+-- A kind stands at a place of a record that is to be written in a target: of the text of a line, of the lines of a record of
+-- an SD file, or of one that is too long, which isn't read further.
 abbrev pub StandsIn : Target → Record → Kind → ℕ → Type 0
 StandsIn to TooLong LineTooLong place = place ≡ 1
 StandsIn to TooLong kind place = ⊥
 StandsIn to (Line text) kind place = StandsAt (text_of text) kind place
+StandsIn to (Sd lines) kind place = StandsInLines lines kind place
+StandsIn to (SdTooLong fault) kind place = StandsAmong (fault ∷ []) kind place
 
--- a record stands for what its text stands for
+-- a record stands for what its text or its lines stand for
 abbrev pub RecordStands : Record → Molecule → Type 0
 RecordStands TooLong m = ⊥
 RecordStands (Line text) m = SmilesStands (text_of text) m
+RecordStands (Sd lines) m = SdStands lines m
+RecordStands (SdTooLong fault) m = ⊥
 
 -- ---- what is written in a target: the one form of a molecule with a name, as bytes and as a record
 
@@ -61,12 +67,14 @@ pub record IsWritten (to : Target) (k : ℕ) (given : Record) (reply : Reply) : 
   pub reads : RecordStands (written_record to input (name_in given)) output
   pub only : (other : Molecule) → RecordStands (written_record to input (name_in given)) other → other ≡ output
   pub same : Same input output (written_atoms to input)
-  pub report : reply.report ≡ ok_line k (written_atoms to input) 0 0 0
+  pub report : reply.report ≡ ok_line k (written_atoms to input) 0 0 (headers_in given)
 
--- the barriers of a record, each with its number of odd parts: those of the text of a line
+-- the barriers of a record, each with its number of odd parts: those of the text of a line; an SD record has none
 abbrev pub IsBarrierOf : Target → Record → List AtomId → ℕ → Type 0
 IsBarrierOf to TooLong barrier odd = ⊥
 IsBarrierOf to (Line text) barrier odd = IsTextBarrier (text_of text) barrier odd
+IsBarrierOf to (Sd lines) barrier odd = IsNoBarrier barrier odd
+IsBarrierOf to (SdTooLong fault) barrier odd = IsNoBarrier barrier odd
 
 -- A record shows a refusal: of kind and place there is one, of barriers there may be several.
 abbrev pub Shows : Target → Record → Refusal → Type 0

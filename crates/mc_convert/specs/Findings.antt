@@ -1,5 +1,5 @@
 -- What is found for one original, by what the report says of it and the converted record that is next (this project's own).
-use Rattle.std.specs.Prelude.{◌≡◌, ◌⊎◌, ◌↔◌, ⊤, ℕ, List, [], ◌∷◌, ◌++◌, Bool, true, false, Option, Some, None, slice_get, codes, decimal, ◌==◌, if◌then◌else◌}
+use Rattle.std.specs.Prelude.{◌≡◌, ◌⊎◌, ◌↔◌, ◌<◌, ⊤, ℕ, length, List, [], ◌∷◌, ◌++◌, Bool, true, false, Option, Some, None, slice_get, codes, decimal, ◌==◌, if◌then◌else◌}
 use Rattle.mc_base.specs.declared.ids.AtomId.{AtomId}
 use Rattle.mc_base.specs.declared.kind.Kind.{Kind}
 use Rattle.mc_base.specs.declared.kind.Kind.TheVariants.{NoPlacement}
@@ -16,18 +16,20 @@ use Rattle.smi_graph.specs.Candidates.{IsCandidate}
 use Rattle.smi_graph.specs.Rules.{atoms_in, text_bonds_in}
 use Rattle.smi_graph.specs.Skeletons.{TextGraph, IsSkeleton}
 use Rattle.smi_mean.specs.Lines.{text_of}
+use Rattle.smi_mean.specs.MeantCentres.{MarkFits}
 use Rattle.smi_mean.specs.Sound.{IsSound}
+use Rattle.mc_same.specs.Differences.{IsVerdict}
 use Rattle.mc_same.specs.Stands.{IsStandsVerdict}
 use Rattle.mc_convert.specs.declared.formats.Target.{Target}
 use Rattle.mc_convert.specs.declared.records.Passed.{Passed}
 use Rattle.mc_convert.specs.declared.records.Passed.TheVariants.{Line, TooLong}
 use Rattle.mc_convert.specs.declared.record_read.RecordRead.{RecordRead}
-use Rattle.mc_convert.specs.declared.record_read.RecordRead.TheVariants.{Stands, Refused}
+use Rattle.mc_convert.specs.declared.record_read.RecordRead.TheVariants.{Stands, Table, Refused}
 use Rattle.mc_convert.specs.declared.finding.Finding.{Finding}
 use Rattle.mc_convert.specs.declared.finding.Finding.TheVariants.{Map, Shown, Report, Missing, Input, Output, Refusal as NotShown}
 use Rattle.mc_convert.specs.Answers.{RecordStands, Shows}
 use Rattle.mc_convert.specs.Readers.{found}
-use Rattle.mc_convert.specs.Records.{Record, Line as RecordLine, TooLong as RecordLong, IsNameAt}
+use Rattle.mc_convert.specs.Records.{Record, Line as RecordLine, TooLong as RecordLong, Sd as RecordSd, SdTooLong as RecordSdLong, IsNameAt, headers_in, name_in}
 use Rattle.mc_convert.specs.Runs.{IsShown}
 
 -- what a line of the report says of record k; a line that is too long says nothing, and where there is none nothing is said
@@ -51,14 +53,16 @@ pub record SaysRefused (k : ℕ) (line : Option (Option (List ℕ))) (P : Refusa
   pub says : Says k line (RefusedLine k refusal)
   pub holds : P refusal
 
--- the skeleton of a record's text
+-- the skeleton of a record's text, where it has one
 abbrev pub IsTextOf : Record → TextGraph → Type 0
-IsTextOf RecordLong skeleton = ⊥
 IsTextOf (RecordLine text) skeleton = IsSkeleton (text_of text) skeleton
+IsTextOf other skeleton = ⊥
 
 -- a bond of a record's text is single or double, and the text doesn't say which
 abbrev pub HasCandidate : Record → Type 0
 HasCandidate RecordLong = ⊥
+HasCandidate (RecordSd lines) = ⊥
+HasCandidate (RecordSdLong fault) = ⊥
 HasCandidate (RecordLine text) = (k : ℕ) × (b : TextBond) × (slice_get (text_bonds_in (text_of text)) k ≡ Some b) × IsCandidate (atoms_in (text_of text)) (text_bonds_in (text_of text)) b
 
 -- the original can be read, and the converted record can't, or has a bond that may be single or double
@@ -67,17 +71,27 @@ pub record IsOutputShown (to : Target) (original converted : Record) : Type 0 wh
   pub stands : RecordStands original input
   pub shown : IsShown to converted ⊎ HasCandidate converted
 
--- An original's text and the one molecule of a converted record compare so under a map: the original stands for any of its
--- molecules.
-pub record Compare (original converted : Record) (map : List AtomId) (v : verdict.Verdict) : Type 0 where
+-- a text and a molecule compare so under a map: the text stands for any of its molecules
+pub record CompareText (text : List ℕ) (output : Molecule) (map : List AtomId) (v : verdict.Verdict) : Type 0 where
   pub skeleton : TextGraph
+  pub text_is : IsSkeleton (text_of text) skeleton
+  pub is : IsStandsVerdict skeleton output map v
+
+-- an original, which stands for a molecule, and a molecule compare so under a map
+abbrev pub CompareOriginal : Record → Molecule → Molecule → List AtomId → verdict.Verdict → Type 0
+CompareOriginal (RecordLine text) input output map v = CompareText text output map v
+CompareOriginal (RecordSd lines) input output map v = IsVerdict input output map v
+CompareOriginal RecordLong input output map v = ⊥
+CompareOriginal (RecordSdLong fault) input output map v = ⊥
+
+-- An original and the one molecule of a converted record compare so under a map.
+pub record Compare (original converted : Record) (map : List AtomId) (v : verdict.Verdict) : Type 0 where
   pub input : Molecule
   pub output : Molecule
   pub input_stands : RecordStands original input
-  pub text : IsTextOf original skeleton
   pub output_stands : RecordStands converted output
   pub plain : HasCandidate converted → ⊥
-  pub is : IsStandsVerdict skeleton output map v
+  pub is : CompareOriginal original input output map v
 
 -- what is found of an original that is said to be written under a map, with the converted record that is next
 abbrev pub IsMapFinding : Target → Record → Option Record → List AtomId → Finding → Type 0
@@ -152,8 +166,8 @@ record_met (Some passed) text = Some (found passed text)
 
 -- the name of a record stands here
 abbrev pub NameStands : Record → Span → Type 0
-NameStands RecordLong name = ⊥
 NameStands (RecordLine text) name = IsNameAt text name
+NameStands other name = ⊥
 
 -- a record is read: it stands for this molecule, which is sound, its text has this skeleton, and its name stands here
 pub record IsRead (given : Record) (m : Molecule) (skeleton : TextGraph) (name : Span) : Type 0 where
@@ -162,11 +176,23 @@ pub record IsRead (given : Record) (m : Molecule) (skeleton : TextGraph) (name :
   pub text : IsTextOf given skeleton
   pub name_is : NameStands given name
 
--- where a record's atoms have no placement, the skeleton of its text is kept
+-- a record of an SD file is read: it stands for this molecule, which is sound, has this name and so many headers
+pub record IsTableRead (given : Record) (m : Molecule) (name : List ℕ) (headers : ℕ) : Type 0 where
+  pub stands : RecordStands given m
+  pub sound : IsSound m
+  pub no_text : HasCandidate given → ⊥
+  pub compare : (output : Molecule) (map : List AtomId) (v : verdict.Verdict) → IsVerdict m output map v → CompareOriginal given m output map v
+  pub name_is : name ≡ name_in given
+  pub headers_are : headers ≡ headers_in given
+
+-- where a line's atoms have no placement, the skeleton of its text is kept
 abbrev pub IsTextKept : Record → Kind → Option TextGraph → Type 0
-IsTextKept given NoPlacement None = ⊥
-IsTextKept given NoPlacement (Some skeleton) = IsTextOf given skeleton
-IsTextKept given kind skeleton = ⊤
+IsTextKept (RecordLine text) NoPlacement None = ⊥
+IsTextKept (RecordLine text) NoPlacement (Some skeleton) = IsSkeleton (text_of text) skeleton
+IsTextKept (RecordLine text) kind skeleton = ⊤
+IsTextKept RecordLong kind skeleton = kind ≡ NoPlacement → ⊥
+IsTextKept (RecordSd lines) kind skeleton = skeleton ≡ None
+IsTextKept (RecordSdLong fault) kind skeleton = skeleton ≡ None
 
 -- a record is refused, whatever it is to be written as
 pub record IsReadRefused (given : Record) (refusal : Refusal) (skeleton : Option TextGraph) : Type 0 where
@@ -176,7 +202,14 @@ pub record IsReadRefused (given : Record) (refusal : Refusal) (skeleton : Option
 -- what a record is read as
 abbrev pub IsReadAs : Record → RecordRead → Type 0
 IsReadAs given (Stands m skeleton name) = IsRead given m skeleton name
+IsReadAs given (Table m name headers) = IsTableRead given m name headers
 IsReadAs given (Refused refusal skeleton) = IsReadRefused given refusal skeleton
+
+-- each mark of its text is at an atom with as many neighbours and hydrogens as a centre has
+abbrev pub MarksFit : RecordRead → Type 0
+MarksFit (Stands m skeleton name) = (k : ℕ) → k < length skeleton.atoms → MarkFits skeleton k
+MarksFit (Table m name headers) = ⊤
+MarksFit (Refused refusal skeleton) = ⊤
 
 abbrev pub AreReadAs : Option Record → Option RecordRead → Type 0
 AreReadAs None None = ⊤

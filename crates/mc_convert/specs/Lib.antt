@@ -12,3 +12,4 @@ pub mod CheckSteps
 pub mod CheckRuns
 pub mod Words
 pub mod Promises
+pub mod SdRecords

@@ -1,6 +1,6 @@
 ghost use Rattle.std.specs.Prelude.{◌≡◌, ◌<◌, ◌≤◌, ◌&&◌, not, [], ℕ, Err, IfOk, IfErr, OnOk, OnErr, IsTrue};
 ghost use Rattle.mc_io.specs.LineReader.{ahead};
-ghost use Rattle.mc_convert.specs.Findings.{IsReadAs};
+ghost use Rattle.mc_convert.specs.Findings.{IsReadAs, MarksFit};
 ghost use Rattle.mc_convert.specs.Records.{Record};
 ghost use Rattle.mc_convert.specs.CheckSteps.{Advance, MayRead, ReadHalts, FindsNext, fresh_readers};
 ghost use Rattle.mc_convert.specs.CheckRuns.{OneChecked, PutSome, CheckHalts, ChecksSome, CheckRan, FoundAll, LessAt, RestChecked, RestStopped, Written};
@@ -32,7 +32,8 @@ fn find_next<S: Source>(
     to: Target,
     source: &mut S,
 ) -> Result<Finding, Halt>
-    requires { MayRead S.LIMIT readers.old }
+    requires may { MayRead S.LIMIT readers.old }
+    requires marks { MarksFit original }
     ensures finds { (given : Record) → IsReadAs given original → IfOk result (FindsNext to k given
         (ahead readers.old.converted (S.inputs source.old 1).left) (ahead readers.new.converted (S.inputs source.new 1).left)
         (ahead readers.old.report (S.inputs source.old 2).left) (ahead readers.new.report (S.inputs source.new 2).left)) }
@@ -67,7 +68,8 @@ fn check_next<S: Source>(
     source: &mut S,
     lines: &mut Text,
 ) -> Result<bool, Halt>
-    requires { MayRead S.LIMIT readers.old }
+    requires may { MayRead S.LIMIT readers.old }
+    requires marks { MarksFit original }
     ensures checked { (given : Record) → IsReadAs given original → IfOk result (OneChecked to k given
         (ahead readers.old.converted (S.inputs source.old 1).left) (ahead readers.new.converted (S.inputs source.new 1).left)
         (ahead readers.old.report (S.inputs source.old 2).left) (ahead readers.new.report (S.inputs source.new 2).left) lines.old lines.new) }

@@ -1,5 +1,5 @@
-ghost use Rattle.std.specs.Prelude.{IfOk};
-ghost use Rattle.mc_convert.specs.Findings.{AreReadAs, record_met};
+ghost use Rattle.std.specs.Prelude.{IfOk, IfSome};
+ghost use Rattle.mc_convert.specs.Findings.{AreReadAs, MarksFit, record_met};
 ghost use Rattle.mc_convert.specs.Readers.{IsLent, IsSomeLine};
 
 use crate::formats::Origin;
@@ -27,6 +27,7 @@ impl CheckReaders {
     ghost use Rattle.mc_io.specs.LineReader.{ahead, fresh};
     ghost use Rattle.mc_io.specs.Outside.{SameBut};
     ghost use Rattle.mc_convert.specs.Checks.{first};
+    ghost use Rattle.mc_convert.specs.Findings.{MarksFit};
     ghost use Rattle.mc_convert.specs.Records.{records};
     ghost use Rattle.mc_convert.specs.CheckSteps.{Advance, MayRead, ReadHalts, ReadsNext, SaidNext};
 
@@ -54,6 +55,7 @@ impl CheckReaders {
     ) -> Result<Option<RecordRead>, Halt>
         requires { MayRead S.LIMIT self.old }
         ensures reads { IfOk result (ReadsNext from (ahead self.old.originals (S.inputs source.old 0).left) (ahead self.new.originals (S.inputs source.new 0).left)) }
+        ensures marks { IfOk result (λ read. IfSome read MarksFit) }
         ensures ended { IfOk result (λ read. IsNone read → IsTrue self.new.originals.ended) }
         ensures passed { IfOk result (λ read. IsSome read → self.old.originals.passed < self.new.originals.passed) }
         ensures few { self.new.originals.passed < 2 ^ 64 }
@@ -149,6 +151,7 @@ impl CheckReaders {
 }
 
 /// Reads the record that was passed, where there is one.
+#[tactic(auto, using(crate::proofs::CheckFound::marks_read))]
 fn read_next(
     alloc: Global,
     lines: &Lines,
@@ -156,11 +159,12 @@ fn read_next(
 ) -> Result<Option<RecordRead>, NoMemory>
     requires lent { IsLent lines.now next }
     requires some { IsSomeLine lines.now.text next }
-    ensures { IfOk result (AreReadAs (record_met next lines.now.text)) }
+    ensures read { IfOk result (AreReadAs (record_met next lines.now.text)) }
+    ensures marks { IfOk result (λ read. IfSome read MarksFit) }
 {
     match next {
         Some(passed) => {
-            let read = read_record(alloc, record_in(lines, passed))?;
+            let read = read_record(alloc, &record_in(lines, passed))?;
             Ok(Some(read))
         }
         None => Ok(None),

@@ -44,7 +44,7 @@ fn answer_all<S: Source, K: Sink>(
     let mut number = 0u64;
     while let Some(passed) = next_record(formats.from, &mut lines, source)? {
         number += 1;
-        let answer = answer_record(alloc, number, record_in(&lines, passed), formats.to)?;
+        let answer = answer_record(alloc, number, &record_in(&lines, passed), formats.to)?;
         put_answer(&answer, sink)?;
         some_refused |= answer.refused;
     }

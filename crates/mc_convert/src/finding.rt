@@ -1,18 +1,19 @@
-ghost use Rattle.std.specs.Prelude.{◌≡◌, ◌++◌, ◌↔◌, ◌<◌, ℕ, Option, Some, OnOk, IfOk, IsTrue, true, false, length, decimal};
+ghost use Rattle.std.specs.Prelude.{◌≡◌, ◌++◌, ◌↔◌, ◌⊎◌, ◌<◌, ℕ, List, [], Option, Some, None, OnOk, IfOk, IfSome, IsTrue, true, false, length, decimal};
 ghost use Rattle.mc_base.specs.Shown.{HasReason};
 ghost use Rattle.mc_base.specs.declared.span.Span.{Span as Place};
-ghost use Rattle.mc_mol.specs.Molecule.{Molecule};
-ghost use Rattle.mc_convert.specs.Answers.{IsBarrierOf, Shows};
+ghost use Rattle.mc_convert.specs.Answers.{IsBarrierOf, RecordStands, Shows};
+ghost use Rattle.mc_convert.specs.Runs.{IsShown};
 ghost use Rattle.mc_convert.specs.Records.{Record};
 ghost use Rattle.mc_convert.specs.declared.formats.Target.{Target};
-ghost use Rattle.mc_convert.specs.Findings.{is_true, difference_text, finding_text, verdict_line, shown_finding, IsMapFinding, IsRead, IsReadAs, IsReadRefused, IsTextKept, IsRefusalFinding, AreReadAs};
+ghost use Rattle.mc_convert.specs.Findings.{is_true, difference_text, finding_text, verdict_line, shown_finding, IsMapFinding, MarksFit, HasCandidate, IsRead, IsReadAs, IsReadRefused, IsTableRead, IsTextKept, IsRefusalFinding, AreReadAs};
 ghost use Rattle.smi_graph.specs.Candidates.{marked};
+ghost use Rattle.smi_mean.specs.MeantCentres.{MarkFits};
 
 use crate::record_read::RecordRead;
 use mc_base::{AtomId, BondId, Kind, NoMemory, Refusal, Text, Verdict};
 use mc_digits::put_number;
 use mc_mol::Mol;
-use mc_same::check_stands;
+use mc_same::{check_map, check_stands};
 use smi_graph::Skeleton;
 use smi_mean::is_barrier_in;
 use std::alloc::Global;
@@ -105,6 +106,7 @@ pub fn map_finding(
     converted: Option<RecordRead>,
     map: &[AtomId],
 ) -> Result<Finding, NoMemory>
+    requires marks { MarksFit original.now }
     ensures { (to : Target) (given : Record) (next : Option Record) → IsReadAs given original.now → AreReadAs next converted
         → IfOk result (IsMapFinding to given next map.now) }
 {
@@ -124,45 +126,79 @@ fn compare(
     converted: &RecordRead,
     map: &[AtomId],
 ) -> Result<Finding, NoMemory>
+    requires marks { MarksFit original.now }
     ensures { (to : Target) (given : Record) (next : Record) → IsReadAs given original.now → IsReadAs next converted.now
         → IfOk result (IsMapFinding to given (Some next) map.now) }
 {
-    match (original, converted) {
-        (RecordRead::Refused(..), _) => Ok(Finding::Input),
-        (RecordRead::Stands { .. }, RecordRead::Refused(..)) => Ok(Finding::Output),
-        (
-            RecordRead::Stands {
-                skeleton: input,
-                ..
-            },
-            RecordRead::Stands {
-                mol: output,
-                skeleton: written,
-                ..
-            },
-        ) => {
-            let finding = compare_text(alloc, input, output, written, map)?;
+    match original {
+        RecordRead::Refused(..) => Ok(Finding::Input),
+        RecordRead::Stands { mol, skeleton, .. } => {
+            let finding = compare_text(alloc, mol, skeleton, converted, map)?;
+            Ok(finding)
+        }
+        RecordRead::Table { mol, .. } => {
+            let finding = compare_molecule(alloc, mol, converted, map)?;
             Ok(finding)
         }
     }
 }
 
-/// The same of a text and a molecule. A written text says the order of each bond.
+/// The molecule of a converted record, where it can be read and says the order of each bond.
+fn written_molecule(converted: &RecordRead) -> Option<&Mol>
+    ensures some { (next : Record) → IsReadAs next converted.now → IfSome result (λ m. RecordStands next m.now × (HasCandidate next → ⊥)) }
+    ensures none { (to : Target) (next : Record) → IsReadAs next converted.now → result ≡ None → IsShown to next ⊎ HasCandidate next }
+{
+    match converted {
+        RecordRead::Refused(..) => None,
+        RecordRead::Stands { mol, skeleton, .. } => {
+            if has_candidate(skeleton) {
+                None
+            } else {
+                Some(mol)
+            }
+        }
+        RecordRead::Table { mol, .. } => Some(mol),
+    }
+}
+
+/// What is found of a text that is said to be written under a map.
 fn compare_text(
     alloc: Global,
+    mol: &Mol,
     input: &Skeleton,
-    output: &Mol,
-    written: &Skeleton,
+    converted: &RecordRead,
     map: &[AtomId],
 ) -> Result<Finding, NoMemory>
-    ensures { (to : Target) (given next : Record) (m : Molecule) (name other : Place) → IsRead given m input.now name → IsRead next output.now written.now other
+    requires marks { (k : ℕ) → k < length input.now.atoms → MarkFits input.now k }
+    ensures { (to : Target) (given next : Record) (name : Place) → IsRead given mol.now input.now name → IsReadAs next converted.now
         → IfOk result (IsMapFinding to given (Some next) map.now) }
 {
-    if has_candidate(written) {
-        return Ok(Finding::Output);
+    match written_molecule(converted) {
+        Some(output) => {
+            let verdict = check_stands(alloc, input, output, map)?;
+            Ok(Finding::Map(verdict))
+        }
+        None => Ok(Finding::Output),
     }
-    let verdict = check_stands(alloc, input, output, map)?;
-    Ok(Finding::Map(verdict))
+}
+
+/// The same of a molecule.
+fn compare_molecule(
+    alloc: Global,
+    mol: &Mol,
+    converted: &RecordRead,
+    map: &[AtomId],
+) -> Result<Finding, NoMemory>
+    ensures { (to : Target) (given next : Record) (name : List ℕ) (headers : ℕ) → IsTableRead given mol.now name headers → IsReadAs next converted.now
+        → IfOk result (IsMapFinding to given (Some next) map.now) }
+{
+    match written_molecule(converted) {
+        Some(output) => {
+            let verdict = check_map(alloc, mol, output, map)?;
+            Ok(Finding::Map(verdict))
+        }
+        None => Ok(Finding::Output),
+    }
 }
 
 /// Whether some bond is single or double, and the text doesn't say which.
@@ -192,6 +228,7 @@ pub fn refusal_finding(
             Ok(shown_finding(shows))
         }
         RecordRead::Stands { .. } => Ok(Finding::Refusal),
+        RecordRead::Table { .. } => Ok(Finding::Refusal),
     }
 }
 
@@ -242,7 +279,7 @@ fn has_reason(
             let right = is_barrier(alloc, skeleton, refusal)?;
             Ok(right)
         }
-        _ => Ok(refusal.barrier.len() == 0 && refusal.odd == 0),
+        _ => Ok(has_no_barrier(refusal)),
     }
 }
 
@@ -260,6 +297,13 @@ fn is_barrier(
             let right = is_barrier_in(alloc, skeleton, refusal.barrier.as_slice(), refusal.odd)?;
             Ok(right)
         }
-        None => Ok(false),
+        None => Ok(has_no_barrier(refusal)),
     }
+}
+
+/// Whether no barrier is said.
+fn has_no_barrier(refusal: &Refusal) -> bool
+    ensures { IsTrue result ↔ ((refusal.now.barrier ≡ []) × (refusal.now.odd ≡ 0)) }
+{
+    refusal.barrier.len() == 0 && refusal.odd == 0
 }

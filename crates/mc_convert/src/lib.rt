@@ -7,6 +7,7 @@ mod check_readers;
 mod command;
 mod command_line;
 mod convert;
+mod drawn_stereo;
 mod finding;
 mod formats;
 mod given;
@@ -15,6 +16,7 @@ mod names;
 mod record_read;
 mod records;
 mod said;
+mod sd_read;
 mod status;
 
 pub use answer::{Answer, answer_record};
@@ -23,6 +25,7 @@ pub use command_line::{Command, command_of};
 pub use formats::{Formats, Origin, Target};
 pub use given::Given;
 pub use names::{NameList, input_names};
+pub use sd_read::{SdRead, read_sd};
 pub use status::Status;
 
 #[cfg(test)]

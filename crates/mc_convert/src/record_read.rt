@@ -1,11 +1,14 @@
 ghost use Rattle.std.specs.Prelude.{◌≡◌, ◌≤◌, IfOk};
-ghost use Rattle.mc_convert.specs.Records.{IsGiven, IsGivenLine, Line, name_in, record_of};
+ghost use Rattle.mc_convert.specs.Records.{IsGiven, IsGivenLine, Line, Sd, name_in, record_of};
 ghost use Rattle.mc_convert.specs.declared.formats.Target.{Target};
 ghost use Rattle.mc_convert.specs.Answers.{Shows};
 ghost use Rattle.mc_convert.specs.Findings.{IsReadAs, NameStands};
 
 use crate::given::Given;
-use mc_base::{Kind, NoMemory, Refusal, Span, Stop};
+use crate::sd_read::{SdRead, read_sd};
+use ct_geometry::CtRead;
+use ct_sd::Record;
+use mc_base::{Kind, NoMemory, Refusal, Span, Stop, Text};
 use mc_mol::Mol;
 use smi_graph::Skeleton;
 use smi_mean::{read_line_skeleton, read_named};
@@ -20,15 +23,21 @@ pub enum RecordRead {
         skeleton: Skeleton,
         name: Span,
     },
+    /// a record of an SD file: it stands for this molecule, and has this name and so many headers
+    Table {
+        mol: Mol,
+        name: Text,
+        headers: u32,
+    },
     /// it shows this refusal; where its atoms have no placement, the skeleton of its text is kept
     Refused(Refusal, Option<Skeleton>),
 }
 
 /// Reads a record.
-#[tactic(auto, using(crate::proofs::Answering::long_read))]
-pub fn read_record(alloc: Global, given: Given<'_>) -> Result<RecordRead, NoMemory>
-    requires { IsGiven given }
-    ensures { IfOk result (IsReadAs (record_of given.entry)) }
+#[tactic(auto, using(crate::proofs::Answering::long_read, crate::proofs::Answering::long_sd_read))]
+pub fn read_record(alloc: Global, given: &Given<'_>) -> Result<RecordRead, NoMemory>
+    requires { IsGiven given.now }
+    ensures { IfOk result (IsReadAs (record_of given.now)) }
 {
     match given {
         Given::Line(text) => {
@@ -36,7 +45,36 @@ pub fn read_record(alloc: Global, given: Given<'_>) -> Result<RecordRead, NoMemo
             Ok(read)
         }
         Given::TooLong => Ok(RecordRead::Refused(Refusal::at(alloc, Kind::LineTooLong, 1), None)),
+        Given::Sd(record) => {
+            let read = read_table(alloc, record)?;
+            Ok(read)
+        }
+        Given::SdTooLong(fault) => Ok(RecordRead::Refused(
+            Refusal::at(alloc, fault.kind, fault.place),
+            None,
+        )),
     }
+}
+
+/// Reads a record of an SD file.
+#[tactic(auto, using(crate::proofs::Answering::table_read, crate::proofs::Answering::table_refused))]
+fn read_table(alloc: Global, given: &Record<'_>) -> Result<RecordRead, NoMemory>
+    ensures { IfOk result (IsReadAs (Sd given.now)) }
+{
+    match read_sd(alloc, given) {
+        Ok(read) => Ok(table_of(read)),
+        Err(Stop::Refused(refusal)) => Ok(RecordRead::Refused(refusal, None)),
+        Err(Stop::NoMemory) => Err(NoMemory),
+    }
+}
+
+/// What is kept of a table that is read.
+fn table_of(read: SdRead) -> RecordRead
+    ensures { result ≡ RecordRead.Table read.ct.mol read.name read.headers }
+{
+    let SdRead { ct, name, headers } = read;
+    let CtRead { mol, .. } = ct;
+    RecordRead::Table { mol, name, headers }
 }
 
 /// Reads a line of SMILES.
@@ -88,12 +126,12 @@ fn unplaced(alloc: Global, text: &[u8], refusal: Refusal) -> Result<RecordRead, 
 }
 
 /// The name of a record that was read.
-pub fn name_of(given: Given<'_>, name: Span) -> &[u8]
-    requires { NameStands (record_of given) name }
-    ensures { result.now ≡ name_in (record_of given.entry) }
+pub fn name_of<'a>(given: &'a Given<'_>, name: Span) -> &'a [u8]
+    requires { NameStands (record_of given.now) name }
+    ensures { result.now ≡ name_in (record_of given.now) }
 {
     match given {
         Given::Line(text) => &text[name.from as usize..name.to as usize],
-        Given::TooLong => &[],
+        Given::TooLong | Given::Sd(_) | Given::SdTooLong(_) => &[],
     }
 }

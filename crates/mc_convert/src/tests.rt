@@ -1,10 +1,12 @@
 //! What a run shows on worked inputs: one file for each thing that is shown.
 ghost use Rattle.std.specs.Prelude.{◌≤◌};
 
+mod centres;
 mod command_lines;
 mod faults;
 mod inputs;
 mod rules;
+mod sd_records;
 mod small_texts;
 mod verdicts;
 

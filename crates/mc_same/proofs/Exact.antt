@@ -20,8 +20,8 @@ use Rattle.smi_graph.specs.Candidates.{marked, is_unmarked_or_aromatic, joins_lo
 use Rattle.smi_graph.specs.Links.{bond_of, symbol, order_of}
 use Rattle.smi_graph.specs.Skeletons.{TextGraph, IsTextGraph}
 use Rattle.smi_mean.specs.Needs.{needs}
-use Rattle.smi_mean.specs.Meant.{IsUnder}
-use Rattle.smi_mean.specs.Placements.{placed_at, LiesOnce, IsPlacement, raised_bond, raised, meaning_under}
+use Rattle.smi_mean.specs.Meant.{IsUnder, molecule_under}
+use Rattle.smi_mean.specs.Placements.{placed_at, LiesOnce, IsPlacement, raised_bond, raised}
 use Rattle.smi_mean.proofs.MeantAtoms.{length_atoms}
 use Rattle.smi_mean.specs.Barriers.{needs_of}
 use Rattle.smi_mean.specs.Lying.{lying_of}
@@ -159,7 +159,7 @@ double_touches n f b k is size new less double here =
 -- ---- what fits is a placement
 
 fits_once : (skeleton : TextGraph) (n : Molecule) (f : List AtomId) → IsMolecule n
-    → FitsGraph (meaning_under skeleton.atoms (map bond_of skeleton.bonds) (doubles skeleton n f)) (needs_of skeleton.atoms skeleton.bonds) (lying_of skeleton.atoms skeleton.bonds (doubles skeleton n f)) n f
+    → FitsGraph (molecule_under skeleton (doubles skeleton n f)) (needs_of skeleton.atoms skeleton.bonds) (lying_of skeleton.atoms skeleton.bonds (doubles skeleton n f)) n f
     → (a : ℕ) → a < length skeleton.atoms → LiesOnce skeleton.atoms (map bond_of skeleton.bonds) (doubles skeleton n f) a
 fits_once skeleton n f is fits a less = elim (cases_Bool (has_bond n k)) [
   | inl bonded ↦
@@ -184,14 +184,14 @@ fits_once skeleton n f is fits a less = elim (cases_Bool (has_bond n k)) [
     marks = doubles skeleton n f
 
     there : (i : ℕ) × (i < length f) × (entry f i ≡ a)
-    there = map_onto (meaning_under skeleton.atoms (map bond_of skeleton.bonds) (doubles skeleton n f)) n f fits.0 a
+    there = map_onto (molecule_under skeleton (doubles skeleton n f)) n f fits.0 a
         (let size = length_atoms (map bond_of skeleton.bonds) 0 skeleton.atoms in omega arith)
 
     k : ℕ
     k = there.0
 
-placement_of_fits : (skeleton : TextGraph) (n : Molecule) (f : List AtomId) → IsTextGraph skeleton → IsMolecule n
-    → FitsGraph (meaning_under skeleton.atoms (map bond_of skeleton.bonds) (doubles skeleton n f)) (needs_of skeleton.atoms skeleton.bonds) (lying_of skeleton.atoms skeleton.bonds (doubles skeleton n f)) n f
+pub placement_of_fits : (skeleton : TextGraph) (n : Molecule) (f : List AtomId) → IsTextGraph skeleton → IsMolecule n
+    → FitsGraph (molecule_under skeleton (doubles skeleton n f)) (needs_of skeleton.atoms skeleton.bonds) (lying_of skeleton.atoms skeleton.bonds (doubles skeleton n f)) n f
     → IsPlacement skeleton.atoms skeleton.bonds (doubles skeleton n f)
 placement_of_fits skeleton n f is well fits =
     placement_by skeleton (doubles skeleton n f) is (length_doubles skeleton.candidates n.bonds f 0 (map bond_of skeleton.bonds) ∙ bonds_count skeleton.bonds) only (fits_once skeleton n f well fits)
@@ -206,8 +206,8 @@ placement_of_fits skeleton n f is well fits =
 
 pub some_of_fits : (skeleton : TextGraph) (n : Molecule) (f : List AtomId) → IsTextGraph skeleton → IsMolecule n → IsStandsVerdict skeleton n f True → IsSomeMolecule skeleton n f
 some_of_fits skeleton n f is well h = record {
-  molecule = meaning_under skeleton.atoms (map bond_of skeleton.bonds) (doubles skeleton n f);
+  molecule = molecule_under skeleton (doubles skeleton n f);
   under = record { placed = doubles skeleton n f; placement = placement_of_fits skeleton n f is well h.0; molecule = refl };
-  same = same_at_last (meaning_under skeleton.atoms (map bond_of skeleton.bonds) (doubles skeleton n f)) n f
-      (fits_same (meaning_under skeleton.atoms (map bond_of skeleton.bonds) (doubles skeleton n f)) (needs_of skeleton.atoms skeleton.bonds) (lying_of skeleton.atoms skeleton.bonds (doubles skeleton n f)) n f h.0) h.1 h.2;
+  same = same_at_last (molecule_under skeleton (doubles skeleton n f)) n f
+      (fits_same (molecule_under skeleton (doubles skeleton n f)) (needs_of skeleton.atoms skeleton.bonds) (lying_of skeleton.atoms skeleton.bonds (doubles skeleton n f)) n f h.0) h.1 h.2;
 }

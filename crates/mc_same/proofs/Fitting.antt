@@ -10,7 +10,7 @@ use Rattle.mc_mol.specs.declared.parts.Bond.{Bond as BondParts}
 use Rattle.mc_mol.specs.Molecule.{Molecule}
 use Rattle.mc_mol.specs.Same.{HasBond, entry}
 use Rattle.smi_graph.specs.declared.skel_atom.SkelAtom.{SkelAtom}
-use Rattle.smi_mean.specs.Placements.{meaning_under}
+use Rattle.smi_mean.specs.Meant.{molecule_under}
 use Rattle.smi_mean.proofs.MeantAtoms.{length_atoms}
 use Rattle.smi_graph.specs.Candidates.{marked}
 use Rattle.smi_graph.specs.Links.{bond_of}
@@ -71,8 +71,8 @@ stereo_verdict m needs lying n f (Bond k) fits is = absurd (not_held (length n.b
 stereo_verdict m needs lying n f (Centre k) fits is = (fits, is.1)
 stereo_verdict m needs lying n f (Sides k) fits is = (fits, is.1, is.2)
 
-pub count_of_text : (atoms : List SkelAtom) (bonds : List BondParts) (doubles : List Bool) (m : Molecule) → m ≡ meaning_under atoms bonds doubles → length m.atoms ≡ length atoms
-count_of_text atoms bonds doubles m is = ap (λ (x : Molecule). length x.atoms) is ∙ length_atoms bonds 0 atoms
+pub count_of_text : (skeleton : TextGraph) (doubles : List Bool) (m : Molecule) → m ≡ molecule_under skeleton doubles → length m.atoms ≡ length skeleton.atoms
+count_of_text skeleton doubles m is = ap (λ (x : Molecule). length x.atoms) is ∙ length_atoms (map bond_of skeleton.bonds) 0 skeleton.atoms
 
 -- another number of atoms
 pub other_count : (skeleton : TextGraph) (n : Molecule) (f : List AtomId) → (length n.atoms ≡ length skeleton.atoms → ⊥) → IsStandsVerdict skeleton n f Length

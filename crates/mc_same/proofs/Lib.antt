@@ -10,3 +10,4 @@ pub mod Exact
 pub mod Counterparts
 pub mod SomeMolecule
 pub mod Bonded
+pub mod UnfitMarks

@@ -17,7 +17,8 @@ use Rattle.smi_graph.specs.Candidates.{marked, is_unmarked_or_aromatic, joins_lo
 use Rattle.smi_graph.specs.Links.{bond_of, symbol, order_of}
 use Rattle.smi_graph.specs.Skeletons.{TextGraph, IsTextGraph}
 use Rattle.smi_mean.specs.Needs.{needs}
-use Rattle.smi_mean.specs.Placements.{placed_at, IsPlacement, raised_bond, raised, meaning_under}
+use Rattle.smi_mean.specs.Meant.{molecule_under}
+use Rattle.smi_mean.specs.Placements.{placed_at, IsPlacement, raised_bond, raised}
 use Rattle.mc_mol.proofs.Neighbours.{AreEnds, joined_ends, bond_joined}
 use Rattle.smi_mean.specs.Barriers.{needs_of}
 use Rattle.smi_mean.specs.Lying.{lying_of}
@@ -33,7 +34,7 @@ use Rattle.mc_same.proofs.OneVerdict.{stands_once}
 
 -- what is double is what was placed
 one_mark : (skeleton : TextGraph) (n : Molecule) (f : List AtomId) (placed : List Bool) (k : ℕ) (b : TextBond) → IsTextGraph skeleton → IsMolecule n → IsPlacement skeleton.atoms skeleton.bonds placed
-    → Same (meaning_under skeleton.atoms (map bond_of skeleton.bonds) placed) n f → slice_get skeleton.bonds k ≡ Some b → slice_get (map bond_of skeleton.bonds) k ≡ Some (bond_of b)
+    → Same (molecule_under skeleton placed) n f → slice_get skeleton.bonds k ≡ Some b → slice_get (map bond_of skeleton.bonds) k ≡ Some (bond_of b)
     → (marked skeleton.candidates k && is_double n.bonds f (bond_of b)) ≡ marked placed k
 one_mark skeleton n f placed k b is well placement same at at_bond =
     same_bools (marked skeleton.candidates k && is_double n.bonds f (bond_of b)) (marked placed k) there back
@@ -60,13 +61,13 @@ one_mark skeleton n f placed k b is well placement same at at_bond =
 
     back : marked placed k ≡ true → (marked skeleton.candidates k && is_double n.bonds f (bond_of b)) ≡ true
     back h =
-        let found = counterpart (meaning_under skeleton.atoms (map bond_of skeleton.bonds) placed) n f k (raised_bond true (bond_of b)) same well once (raised_at true h) in
+        let found = counterpart (molecule_under skeleton placed) n f k (raised_bond true (bond_of b)) same well once (raised_at true h) in
         and_from (marked skeleton.candidates k) (is_double n.bonds f (bond_of b)) ((is.candidates k b at).1 (placement.candidates k b at h))
         (in_any (λ (found : BondParts). found.order == 2 && joins (bond_of b) (entry f found.first.0) (entry f found.second.0)) n.bonds found.number found.bond found.is_bond
         (and_from (found.bond.order == 2) (joins (bond_of b) (entry f found.bond.first.0) (entry f found.bond.second.0)) (eq-eqb found.bond.order 2 found.order) found.joined))
 
 doubles_placed : (skeleton : TextGraph) (n : Molecule) (f : List AtomId) (placed : List Bool) → IsTextGraph skeleton → IsMolecule n → IsPlacement skeleton.atoms skeleton.bonds placed
-    → Same (meaning_under skeleton.atoms (map bond_of skeleton.bonds) placed) n f → doubles skeleton n f ≡ placed
+    → Same (molecule_under skeleton placed) n f → doubles skeleton n f ≡ placed
 doubles_placed skeleton n f placed is well placement same =
     let length_text : length (map bond_of skeleton.bonds) ≡ length skeleton.bonds = bonds_count skeleton.bonds in
     let length_found : length (doubles skeleton n f) ≡ length (map bond_of skeleton.bonds) = length_doubles skeleton.candidates n.bonds f 0 (map bond_of skeleton.bonds) in
@@ -79,8 +80,8 @@ doubles_placed skeleton n f placed is well placement same =
 
 -- so there is no difference
 fits_placed : (skeleton : TextGraph) (n : Molecule) (f : List AtomId) (placed : List Bool) → IsMolecule n → IsPlacement skeleton.atoms skeleton.bonds placed
-    → Same (meaning_under skeleton.atoms (map bond_of skeleton.bonds) placed) n f → ((k : ℕ) (b : BondParts) → slice_get (map bond_of skeleton.bonds) k ≡ Some b → marked placed k ≡ true → is_double n.bonds f b ≡ true)
-    → IsFitVerdict (meaning_under skeleton.atoms (map bond_of skeleton.bonds) placed) (needs_of skeleton.atoms skeleton.bonds) (lying_of skeleton.atoms skeleton.bonds placed) n f True
+    → Same (molecule_under skeleton placed) n f → ((k : ℕ) (b : BondParts) → slice_get (map bond_of skeleton.bonds) k ≡ Some b → marked placed k ≡ true → is_double n.bonds f b ≡ true)
+    → IsFitVerdict (molecule_under skeleton placed) (needs_of skeleton.atoms skeleton.bonds) (lying_of skeleton.atoms skeleton.bonds placed) n f True
 fits_placed skeleton n f placed well placement same double = (
   (
     ((same.length_map, same.length_atoms), same.in_range, new),
@@ -112,9 +113,9 @@ fits_placed skeleton n f placed well placement same double = (
         double_touches n f b k well same.length_map new less (double j b at mark) touched
 
 none_where_same : (skeleton : TextGraph) (n : Molecule) (f : List AtomId) (placed : List Bool) → IsTextGraph skeleton → IsMolecule n → IsPlacement skeleton.atoms skeleton.bonds placed
-    → Same (meaning_under skeleton.atoms (map bond_of skeleton.bonds) placed) n f → IsStandsVerdict skeleton n f True
+    → Same (molecule_under skeleton placed) n f → IsStandsVerdict skeleton n f True
 none_where_same skeleton n f placed is well placement same =
-    subst (λ (d : List Bool). IsFitVerdict (meaning_under skeleton.atoms (map bond_of skeleton.bonds) d) (needs_of skeleton.atoms skeleton.bonds) (lying_of skeleton.atoms skeleton.bonds d) n f True) (sym are)
+    subst (λ (d : List Bool). IsFitVerdict (molecule_under skeleton d) (needs_of skeleton.atoms skeleton.bonds) (lying_of skeleton.atoms skeleton.bonds d) n f True) (sym are)
     (fits_placed skeleton n f placed well placement same double)
   where
     are : doubles skeleton n f ≡ placed

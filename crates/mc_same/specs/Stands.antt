@@ -14,8 +14,7 @@ use Rattle.smi_graph.specs.Links.{bond_of}
 use Rattle.smi_graph.specs.Skeletons.{TextGraph}
 use Rattle.smi_mean.specs.Barriers.{needs_of}
 use Rattle.smi_mean.specs.Lying.{lying_of}
-use Rattle.smi_mean.specs.Meant.{IsUnder}
-use Rattle.smi_mean.specs.Placements.{meaning_under}
+use Rattle.smi_mean.specs.Meant.{IsUnder, molecule_under}
 use Rattle.mc_same.specs.Differences.{SameLength, InRange, IsNew, SameAtom, CentreAgrees, SidesAgree, Holds, FailsFirst, SameMap}
 
 -- n has a bond of the text as a double bond
@@ -66,7 +65,7 @@ IsFitVerdict m needs lying n f (Sides k) = FitsGraph m needs lying n f × Holds 
 -- The first difference of a molecule from a text: from the text's molecule in which a candidate is double exactly where its
 -- bond of n is. So a candidate allows order 1 or 2, and any other bond its own.
 abbrev pub IsStandsVerdict : TextGraph → Molecule → List AtomId → Verdict → Type 0
-IsStandsVerdict skeleton n f v = IsFitVerdict (meaning_under skeleton.atoms (map bond_of skeleton.bonds) (doubles skeleton n f))
+IsStandsVerdict skeleton n f v = IsFitVerdict (molecule_under skeleton (doubles skeleton n f))
     (needs_of skeleton.atoms skeleton.bonds) (lying_of skeleton.atoms skeleton.bonds (doubles skeleton n f)) n f v
 
 -- some molecule of the text is the same as n under the map

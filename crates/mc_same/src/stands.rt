@@ -1,4 +1,4 @@
-ghost use Rattle.std.specs.Prelude.{◌≡◌, ◌<◌, ◌≤◌, ◌↔◌, ◌&&◌, ◌||◌, not, ◌==◌, List, IfOk, IsTrue, length, map as map_list};
+ghost use Rattle.std.specs.Prelude.{◌≡◌, ℕ, Bool, ◌<◌, ◌≤◌, ◌↔◌, ◌&&◌, ◌||◌, not, ◌==◌, List, IfOk, IsTrue, length, map as map_list};
 ghost use Rattle.mc_base.specs.declared.ids.AtomId.{AtomId as Entry};
 ghost use Rattle.mc_base.specs.declared.verdict.Verdict.{Verdict as Finding};
 ghost use Rattle.mc_base.specs.declared.verdict.Verdict.TheVariants.{True};
@@ -11,9 +11,11 @@ ghost use Rattle.smi_graph.specs.Links.{bond_of};
 ghost use Rattle.smi_graph.specs.Skeletons.{TextGraph};
 ghost use Rattle.smi_mean.specs.Barriers.{needs_of};
 ghost use Rattle.smi_mean.specs.Lying.{lying_of};
-ghost use Rattle.smi_mean.specs.Placements.{meaning_under};
+ghost use Rattle.smi_mean.specs.Meant.{molecule_under};
+ghost use Rattle.smi_mean.specs.MeantCentres.{MarkFits};
+ghost use Rattle.smi_mean.specs.Placements.{IsPlacement};
 ghost use Rattle.mc_same.specs.Differences.{FirstFailure, Holds, InRange, IsNew, SameAtom, SameMap};
-ghost use Rattle.mc_same.specs.Stands.{is_double, doubles_from, has_bond, AtomFits, BondFits, IsFitVerdict, IsStandsVerdict, IsSomeMolecule};
+ghost use Rattle.mc_same.specs.Stands.{is_double, doubles as doubles_of, doubles_from, has_bond, AtomFits, BondFits, IsFitVerdict, IsStandsVerdict, IsSomeMolecule};
 
 use crate::atoms::{first_out_of_range, first_repeat, same_atom};
 use crate::bonds::counterpart;
@@ -21,7 +23,7 @@ use crate::check::compare_stereo;
 use mc_base::{AtomId, BondId, NoMemory, Verdict};
 use mc_mol::{Bond, Mol};
 use smi_graph::{Skeleton, bonds_with_orders, is_marked};
-use smi_mean::{lying_once, molecule_with, needing_atoms};
+use smi_mean::{lying_once, marks_fit, molecule_with, needing_atoms, unmarked_with};
 use std::alloc::{AllocError, Global};
 
 /// Whether a bond of the molecule is double, and a bond of the text by the map.
@@ -237,8 +239,9 @@ fn compare_written(
     }
 }
 
-/// The first difference from the molecule of a text in which these candidates are double.
-#[tactic(auto, using(crate::proofs::Fitting::count_of_text))]
+/// The first difference from the molecule of a text in which these candidates are double. Where a mark doesn't fit, they are
+/// no placement, and the difference stands before the centres.
+#[tactic(auto, using(crate::proofs::Fitting::count_of_text, crate::proofs::UnfitMarks::unfit_answer))]
 fn compare_text(
     alloc: Global,
     input: &Skeleton,
@@ -249,12 +252,20 @@ fn compare_text(
     requires doubles { length doubles.now ≡ length input.now.bonds }
     requires same_length { length map.now ≡ length output.now.atoms }
     requires same_count { length output.now.atoms ≡ length input.now.atoms }
-    ensures { IfOk result (IsFitVerdict (meaning_under input.now.atoms (map_list bond_of input.now.bonds) doubles.now)
+    requires double { doubles.now ≡ doubles_of input.now output.now map.now }
+    requires marks { (placed : List Bool) → IsPlacement input.now.atoms input.now.bonds placed → (k : ℕ) → k < length input.now.atoms → MarkFits input.now k }
+    ensures { IfOk result (IsFitVerdict (molecule_under input.now doubles.now)
         (needs_of input.now.atoms input.now.bonds) (lying_of input.now.atoms input.now.bonds doubles.now) output.now map.now) }
 {
-    let mol = molecule_with(alloc, input, doubles)?;
+    let _bonds = input.bonds();
+    let _atoms = output.atom_count();
     let needs = needing_atoms(alloc, input)?;
     let lying = lying_once(alloc, input, &needs, doubles)?;
+    if marks_fit(input) {
+        let mol = molecule_with(alloc, input, doubles)?;
+        return compare_written(alloc, &mol, &needs, &lying, output, map);
+    }
+    let mol = unmarked_with(alloc, input, doubles)?;
     compare_written(alloc, &mol, &needs, &lying, output, map)
 }
 
@@ -266,6 +277,7 @@ fn first_difference(
     output: &Mol,
     map: &[AtomId],
 ) -> Result<Verdict, NoMemory>
+    requires marks { (placed : List Bool) → IsPlacement input.now.atoms input.now.bonds placed → (k : ℕ) → k < length input.now.atoms → MarkFits input.now k }
     ensures first { IfOk result (IsStandsVerdict input.now output.now map.now) }
 {
     if output.atom_count() != input.atom_count() {
@@ -288,6 +300,7 @@ pub fn check_stands(
     output: &Mol,
     map: &[AtomId],
 ) -> Result<Verdict, NoMemory>
+    requires marks { (placed : List Bool) → IsPlacement input.now.atoms input.now.bonds placed → (k : ℕ) → k < length input.now.atoms → MarkFits input.now k }
     ensures first { IfOk result (IsStandsVerdict input.now output.now map.now) }
     ensures same { IfOk result (λ v. (v ≡ True) ↔ IsSomeMolecule input.now output.now map.now) }
 {

@@ -24,3 +24,4 @@ pub mod EntriesLaw
 pub mod ListsLaw
 pub mod NeighbourCount
 pub mod SimpleBonds
+pub mod JoinedAtoms

@@ -12,6 +12,7 @@ use Rattle.smi_graph.specs.declared.text_bond.TextBond.{TextBond}
 use Rattle.smi_graph.specs.Bonds.{atom_count, predecessor, mark_of, open_end, ring_end, ring_bond, chain_bond, completed, text_bonds}
 use Rattle.smi_graph.specs.TextOrder.{predecessor_of, if_behind, followers, ring_partners, neighbours}
 use Rattle.smi_graph.specs.RingSlots.{RingSlot, filled, slot_if, turn_slots, slots, slot_atoms}
+pub use Rattle.smi_graph.specs.NeighbourLists.{occurs}
 use Rattle.smi_graph.proofs.Waiting.{bit, waits, opened_at, waiting, zero_if}
 use Rattle.smi_graph.proofs.EntriesLaw.{none_yet}
 use Rattle.smi_graph.proofs.RingSlotsLaw.{partners_kept}
@@ -171,11 +172,6 @@ length_weight (x ∷ xs) = let h = length_weight xs in omega arith
 
 pub length_law : (a : ℕ) (ks : List Role) → length (neighbours a ks) ≡ ends_weight (λ x. 1) a (text_bonds (reverse ks))
 length_law a ks = length_weight (neighbours a ks) ∙ sum_law (λ x. 1) a ks
-
--- how often an atom stands in a list
-abbrev pub occurs : ℕ → List ℕ → ℕ
-occurs v [] = 0
-occurs v (x ∷ xs) = bit (x == v) + occurs v xs
 
 pub occurs_append : (v : ℕ) (xs ys : List ℕ) → occurs v (xs ++ ys) ≡ occurs v xs + occurs v ys
 occurs_append v [] ys = omega arith

@@ -1,29 +1,37 @@
 -- What is found of a text, put together.
-use Rattle.std.proofs.Common.{arith, ◌≡◌, ◌∙◌, ℕ, ◌+◌, ◌≤◌, ◌<◌, List, [], length, reverse, Bool, true, false, Option, Some, None, refl, ap, sym, subst, inl, inr}
+use Rattle.std.proofs.Common.{arith, ◌≡◌, ◌∙◌, ℕ, zero, suc, ◌+◌, ◌≤◌, ◌<◌, List, [], ◌∷◌, ◌++◌, length, reverse, Bool, true, false, Option, Some, None, refl, ap, sym, subst, inl, inr}
 use Rattle.std.specs.List.{list_all}
 use Rattle.std.specs.Prelude.{map, slice_get, take}
-use Rattle.std.proofs.lemmas.Bool.{cases_lt, false_from_ne_true}
+use Rattle.std.proofs.lemmas.Bool.{cases_lt, false≢true, false_from_ne_true}
 use Rattle.std.proofs.lemmas.List.{length-map, length-reverse, take_all}
 use Rattle.mc_mol.specs.declared.limits.TheConstants.{BOND_LIMIT}
 use Rattle.mc_base.specs.declared.kind.Kind.{Kind}
 use Rattle.mc_base.specs.declared.kind.Kind.TheVariants.{RingOpen, RingPair, LimitAtoms, LimitBonds, LimitIsotope, LimitClass}
 use Rattle.mc_base.specs.Shown.{IsFirst}
+use Rattle.mc_base.specs.declared.span.Span.{Span}
 use Rattle.smi_lex.specs.declared.token.Token.{Token}
+use Rattle.smi_lex.specs.declared.token.TokenKind.{TokenKind}
+use Rattle.smi_lex.specs.declared.token.TokenKind.TheVariants as token
 use Rattle.smi_lex.specs.Tokens.{tokens, unread}
 use Rattle.smi_graph.specs.declared.first_faults.Fault.{Fault}
 use Rattle.smi_graph.specs.declared.reader.Reader.{Reader}
 use Rattle.smi_graph.specs.declared.role.Role.{Role}
 use Rattle.smi_graph.specs.declared.skel_atom.SkelAtom.{SkelAtom}
 use Rattle.smi_graph.specs.declared.text_bond.TextBond.{TextBond}
-use Rattle.smi_graph.specs.Roles.{role_of, atoms_of}
+use Rattle.smi_graph.specs.Roles.{role_of, atom_of, atoms_of, bare_atom, bracket_atom}
 use Rattle.smi_graph.specs.RingRules.{pair_again_at}
 use Rattle.smi_graph.specs.Order.{tokens_before}
 use Rattle.smi_graph.specs.Bonds.{atom_count, open_end, text_bonds}
 use Rattle.mc_base.specs.declared.ids.AtomId.{AtomId}
 use Rattle.smi_graph.specs.declared.ring_table.RingEnd.{RingEnd}
-use Rattle.smi_graph.specs.RingSlots.{HoldsNeighbours, AreEntries}
+use Rattle.smi_graph.specs.RingSlots.{HoldsNeighbours, AreEntries, atom_id}
 use Rattle.smi_graph.proofs.ListsLaw.{AreHeld, are_held}
-use Rattle.smi_graph.specs.Links.{bond_of}
+use Rattle.smi_graph.specs.Links.{bond_of, bonds_of}
+use Rattle.smi_graph.specs.NeighbourLists.{AreNeighboursOf}
+use Rattle.smi_graph.specs.TextOrder.{neighbours}
+use Rattle.smi_graph.proofs.JoinedAtoms.{are_neighbours}
+use Rattle.smi_graph.proofs.SimpleBonds.{Simple, simple_of}
+use Rattle.std.proofs.lemmas.Option.{same_Some}
 use Rattle.smi_graph.specs.Candidates.{AreCandidates}
 use Rattle.smi_graph.specs.Reading.{held_atom, HasRead}
 use Rattle.smi_graph.specs.Rules.{roles_in, atoms_in, bonds_in, text_bonds_in, is_built, is_built_kind, fails, has_high_isotope, has_high_class, WrongAt, AromaticAt, BeyondAt, BreaksAt}
@@ -142,6 +150,43 @@ lists_of text r lists led has all h right entries is =
     are_held ks r.structure.neighbours lists led (length r.atoms.items) holds (entries (reverse ks) holds) is
     (count_atoms (tokens text) ∙ sym (size text r.atoms.items h.atoms)) (none_open text right)
 
+below_length : (lists : List (List AtomId)) (a : ℕ) (list : List AtomId) → slice_get lists a ≡ Some list → a < length lists
+below_length [] a list at = cc
+below_length (x ∷ lists) zero list at = omega arith
+below_length (x ∷ lists) (suc a) list at = let less = below_length lists a list at in omega arith
+
+-- each of the lists has the atoms that are joined to its atom
+lists_stand : (text : List ℕ) (bs : List TextBond) (held : List SkelAtom) → Has text bs held → IsFirstFault (WrongAt (roles_in text)) None
+    → (lists : List (List AtomId)) (led : List Bool) → AreHeld (roles_in text) (length held) lists led
+    → (a : ℕ) (list : List AtomId) → slice_get lists a ≡ Some list → AreNeighboursOf (map bond_of bs) a list
+lists_stand text bs held h right lists led held_lists a list at =
+    let ks : List Role = roles_in text in
+    let s = sound text bs held h right in
+    let simple : Simple (length held) (bonds_of (reverse ks)) = subst (λ (x : List TextBond). Simple (length held) (map bond_of x)) h.bonds (simple_of (length held) (map bond_of bs) s.each s.once) in
+    let less = below_length lists a list at in
+    let count = held_lists.lists_count in
+    let same : map atom_id (neighbours a ks) ≡ list = same_Some (map atom_id (neighbours a ks)) list (sym (held_lists.lists_are a (omega arith)) ∙ at) in
+    subst (λ (x : List AtomId). AreNeighboursOf (map bond_of bs) a x) same
+    (subst (λ (x : List TextBond). AreNeighboursOf (map bond_of x) a (map atom_id (neighbours a ks))) (sym h.bonds) (are_neighbours ks a (length held) simple))
+
+-- an atom without brackets has no mark
+one_marked : (kind : TokenKind) (span : Span) (more : List SkelAtom) → ((k : ℕ) (atom : SkelAtom) → slice_get (map held_atom more) k ≡ Some atom → atom.bare ≡ true → atom.chiral ≡ None)
+    → (k : ℕ) (atom : SkelAtom) → slice_get (map held_atom (atom_of kind span ++ more)) k ≡ Some atom → atom.bare ≡ true → atom.chiral ≡ None
+one_marked (token.Bare element lower) span more rest zero atom at bare = sym (ap (λ (x : SkelAtom). x.chiral) (same_Some (held_atom (bare_atom element lower span)) atom at))
+one_marked (token.Bare element lower) span more rest (suc k) atom at bare = rest k atom at bare
+one_marked (token.Bracket element lower isotope chiral hydrogens charge class) span more rest zero atom at bare =
+    absurd (false≢true (ap (λ (x : SkelAtom). x.bare) (same_Some (held_atom (bracket_atom element lower isotope chiral hydrogens charge class span)) atom at) ∙ bare))
+one_marked (token.Bracket element lower isotope chiral hydrogens charge class) span more rest (suc k) atom at bare = rest k atom at bare
+one_marked (token.Bond mark) span more rest k atom at bare = rest k atom at bare
+one_marked (token.Ring number) span more rest k atom at bare = rest k atom at bare
+one_marked token.Enter span more rest k atom at bare = rest k atom at bare
+one_marked token.Leave span more rest k atom at bare = rest k atom at bare
+one_marked token.Dot span more rest k atom at bare = rest k atom at bare
+
+marks_in_brackets : (ts : List Token) (k : ℕ) (atom : SkelAtom) → slice_get (map held_atom (atoms_of ts)) k ≡ Some atom → atom.bare ≡ true → atom.chiral ≡ None
+marks_in_brackets [] k atom at bare = cc
+marks_in_brackets (t ∷ ts) k atom at bare = one_marked t.kind t.span (atoms_of ts) (λ j a is b. marks_in_brackets ts j a is b) k atom at bare
+
 -- a text with no fault
 pub nothing : (text : List ℕ) (bs : List TextBond) (held : List SkelAtom) (candidates : List Bool) → Has text bs held
     → IsFirstFault (WrongAt (roles_in text)) None → IsFirstFault (AromaticAt held bs) None → IsFirstFault (BeyondAt held (map bond_of bs)) None → AreCandidates held bs candidates
@@ -157,5 +202,5 @@ nothing text bs held candidates h right lower within are lists led held_lists =
       atoms = h.atoms ∙ all_held (atoms_in text) isotopes classes;
       bonds = h.bonds;
       neighbours = record { lists = held_lists.lists_are; led = held_lists.led_are };
-      limits = record { few_atoms = few_ones.0; few_bonds = few_ones.1; sound = sound text bs held h right; candidates = are; lists = held_lists.lists_count; led = held_lists.led_count };
+      limits = record { few_atoms = few_ones.0; few_bonds = few_ones.1; sound = sound text bs held h right; candidates = are; lists = held_lists.lists_count; led = held_lists.led_count; brackets = λ k atom at bare. marks_in_brackets (tokens text) k atom (ap (λ (x : List SkelAtom). slice_get x k) (sym h.atoms) ∙ at) bare; neighbours = λ a list at. lists_stand text bs held h right lists led held_lists a list at };
     }

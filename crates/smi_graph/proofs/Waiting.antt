@@ -10,10 +10,7 @@ use Rattle.smi_graph.specs.Bonds.{atom_count, open_end, ring_end}
 use Rattle.smi_graph.specs.RingTables.{turned}
 use Rattle.smi_graph.specs.RingSlots.{RingSlot, filled, slot_if, turn_slots, slots}
 use Rattle.smi_graph.proofs.RingEnds.{open_end_same, open_end_other}
-
-abbrev pub bit : Bool → ℕ
-bit true = 1
-bit false = 0
+pub use Rattle.smi_graph.specs.NeighbourLists.{bit}
 
 -- how many slots wait for a number
 

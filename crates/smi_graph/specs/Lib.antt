@@ -9,6 +9,7 @@ pub mod Branches
 pub mod RingTables
 pub mod TextOrder
 pub mod RingSlots
+pub mod NeighbourLists
 pub mod Firsts
 pub mod Reading
 pub mod Skeletons

@@ -1,6 +1,6 @@
 -- The rules of the kinds that speak of a text's tokens: at which places each kind stands.
 use Rattle.std.specs.List.{list_all}
-use Rattle.std.specs.Prelude.{◌≡◌, ℕ, ◌+◌, ◌-◌, ◌≤◌, ◌<◌, Bool, true, false, List, [], Option, Some, None, nat_lt, slice_get, slice_index_or, is_none, map, length, reverse, nat_abs}
+use Rattle.std.specs.Prelude.{◌≡◌, ℕ, ◌+◌, ◌-◌, ◌≤◌, ◌<◌, Bool, true, false, List, [], Option, Some, None, nat_lt, slice_get, slice_index_or, map, length, reverse, nat_abs}
 use Rattle.mc_base.specs.declared.kind.Kind.{Kind}
 use Rattle.mc_base.specs.declared.kind.Kind.TheVariants.{NotBuilt, BadToken, Wildcard, OtherChirality, BadOrder, ParenOpen, RingOpen, RingClash, RingPair, AromaticBond, LimitAtoms, LimitBonds, LimitRings, LimitIsotope, LimitClass, LimitCharge}
 use Rattle.mc_mol.specs.declared.parts.Bond as bond
@@ -51,10 +51,10 @@ is_built_mark Aromatic = true
 is_built_mark Slash = false
 is_built_mark Backslash = false
 
--- no chirality, `/` or `\` is read today
+-- no `/` or `\` is read today
 abbrev pub is_built_kind : TokenKind → Bool
 is_built_kind (kind.Bare element lower) = true
-is_built_kind (kind.Bracket element lower isotope chiral hydrogens charge class) = is_none chiral
+is_built_kind (kind.Bracket element lower isotope chiral hydrogens charge class) = true
 is_built_kind (kind.Bond mark) = is_built_mark mark
 is_built_kind (kind.Ring number) = true
 is_built_kind kind.Enter = true

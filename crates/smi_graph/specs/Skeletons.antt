@@ -1,5 +1,5 @@
 -- What a text is read as.
-use Rattle.std.specs.Prelude.{◌≡◌, ℕ, ◌≤◌, ◌<◌, Bool, true, false, List, Option, Some, length, map, option_map, slice_get, All, AllPairs}
+use Rattle.std.specs.Prelude.{◌≡◌, ℕ, ◌≤◌, ◌<◌, Bool, true, false, List, Option, Some, None, length, map, option_map, slice_get, All, AllPairs}
 use Rattle.mc_base.specs.declared.ids.AtomId.{AtomId}
 use Rattle.mc_base.specs.declared.kind.Kind.{Kind}
 use Rattle.mc_base.specs.declared.refusal.Stop.{Stop}
@@ -18,6 +18,7 @@ use Rattle.smi_graph.specs.Candidates.{marked, AreCandidates}
 use Rattle.smi_graph.specs.declared.role.Role.{Role}
 use Rattle.smi_graph.specs.TextOrder.{neighbours, has_predecessor}
 use Rattle.smi_graph.specs.RingSlots.{atom_id}
+use Rattle.smi_graph.specs.NeighbourLists.{AreNeighboursOf}
 use Rattle.smi_graph.specs.Rules.{roles_in, atoms_in, text_bonds_in, BreaksAt}
 
 -- the atoms of a text, in its order, its bonds, in the order of the tokens that complete them, and which of these are
@@ -34,7 +35,8 @@ pub record AreBonds (atoms : ℕ) (bonds : List bond.Bond) : Type 0 where
   pub each : All (IsBond atoms) bonds
   pub once : AllPairs (λ (b c : bond.Bond). joins b c.first.0 c.second.0 ≡ false) bonds
 
--- at most 999 atoms and bonds; bonds between these atoms, no pair twice; the candidates are marked
+-- at most 999 atoms and bonds; bonds between these atoms, no pair twice; the candidates are marked; each list is that of an
+-- atom's neighbours; a mark stands in brackets
 pub record IsTextGraph (graph : TextGraph) : Type 0 where
   pub few_atoms : length graph.atoms ≤ 999
   pub few_bonds : length graph.bonds ≤ 999
@@ -42,6 +44,8 @@ pub record IsTextGraph (graph : TextGraph) : Type 0 where
   pub candidates : AreCandidates graph.atoms graph.bonds graph.candidates
   pub lists : length graph.neighbours ≡ length graph.atoms
   pub led : length graph.led ≡ length graph.atoms
+  pub brackets : (k : ℕ) (atom : SkelAtom) → slice_get graph.atoms k ≡ Some atom → atom.bare ≡ true → atom.chiral ≡ None
+  pub neighbours : (a : ℕ) (list : List AtomId) → slice_get graph.neighbours a ≡ Some list → AreNeighboursOf (map bond_of graph.bonds) a list
 
 -- a candidate is single or double; of every other bond the order is known
 abbrev pub link_of : Bool → TextBond → Link

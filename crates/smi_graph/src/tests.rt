@@ -94,10 +94,8 @@ fn what_is_not_read_yet(rt: HostRuntime) {
         &[
             ("F/C=C/F", Kind::NotBuilt, 1),
             ("F\\C=C\\F", Kind::NotBuilt, 1),
-            ("N[C@@H](C)C(=O)O", Kind::NotBuilt, 1),
-            ("F[C@H](Cl)Br", Kind::NotBuilt, 1),
             // also where another kind stands
-            ("C))[C@]", Kind::NotBuilt, 1),
+            ("C))/[C@]", Kind::NotBuilt, 1),
             ("c1/", Kind::NotBuilt, 1),
             ("C:C\\", Kind::NotBuilt, 1),
         ],

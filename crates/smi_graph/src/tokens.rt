@@ -27,9 +27,9 @@ pub fn is_built_kind(kind: TokenKind) -> bool
     ensures { result ≡ is_built_kind kind }
 {
     match kind {
-        TokenKind::Bracket { chiral, .. } => chiral.is_none(),
         TokenKind::Bond(mark) => is_built_mark(mark),
         TokenKind::Bare { .. }
+        | TokenKind::Bracket { .. }
         | TokenKind::Ring(_)
         | TokenKind::Enter
         | TokenKind::Leave

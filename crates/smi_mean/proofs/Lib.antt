@@ -21,3 +21,11 @@ pub mod OnceEach
 pub mod BarrierTests
 pub mod MarkedBonds
 pub mod PlaceLists
+pub mod CentreLists
+pub mod CentreTests
+pub mod CentreFits
+pub mod CentreRows
+pub mod CentresRead
+pub mod WrongMarks
+pub mod CentresSet
+pub mod CentresMarked

@@ -1,13 +1,14 @@
 -- The places that a text says of a centre are a list of places of its atom.
 use Rattle.std.proofs.Common.{◌≡◌, ◌≢◌, ℕ, zero, suc, ◌+◌, ◌≤◌, ◌<◌, List, [], ◌∷◌, ◌++◌, length, map, reverse, Bool, true, false, Option, refl, ap, sym, ◌∙◌, subst, inl, inr, arith}
-use Rattle.std.specs.Prelude.{◌==◌, ◌⊎◌, ◌||◌, ◌&&◌, Contains, nat_lt, slice_index_or, if◌then◌else◌}
+use Rattle.std.specs.Prelude.{◌==◌, ◌⊎◌, ◌||◌, ◌↔◌, Contains, nat_lt, slice_index_or}
 use Rattle.std.specs.Option.{option_to_list}
-use Rattle.std.proofs.lemmas.Bool.{cases_eq, cases_lt, false≢true, ne_eqb, eqb-true, and_parts}
+use Rattle.std.proofs.lemmas.Bool.{cases_eq, ne_eqb}
 use Rattle.std.proofs.lemmas.Bool.Decides.{nat_tests}
 use Rattle.std.proofs.lemmas.List.{length-append, length-map}
 use Rattle.mc_mol.specs.declared.parts.Slot.{Slot}
 use Rattle.mc_mol.specs.declared.parts.Slot.TheVariants.{At, Rest}
-use Rattle.mc_mol.specs.Molecule.{joins, are_joined, touches}
+use Rattle.mc_mol.specs.declared.parts.Bond.{Bond}
+use Rattle.mc_mol.specs.Molecule.{are_joined}
 use Rattle.mc_mol.specs.HalfEdges.{degree}
 use Rattle.mc_mol.specs.Permutations.{same_slot}
 use Rattle.mc_mol.specs.WellFormed.{IsPlaceList}
@@ -15,11 +16,13 @@ use Rattle.mc_mol.proofs.Halves.{same_test}
 use Rattle.smi_graph.specs.declared.role.Role.{Role}
 use Rattle.smi_graph.specs.declared.text_bond.TextBond.{TextBond}
 use Rattle.smi_graph.specs.Bonds.{text_bonds}
-use Rattle.smi_graph.specs.Links.{bond_of, bonds_of}
-use Rattle.smi_graph.specs.TextOrder.{predecessor_of, followers, ring_partners, neighbours}
-use Rattle.smi_graph.proofs.NeighbourCount.{occurs, occurs_append, neighbours_law, end_weight, ends_weight, length_law}
-use Rattle.smi_graph.proofs.SimpleBonds.{Simple, alone}
-use Rattle.smi_graph.proofs.Waiting.{bit}
+use Rattle.smi_graph.specs.Links.{bonds_of}
+use Rattle.smi_graph.specs.TextOrder.{predecessor_of, followers, ring_partners}
+use Rattle.smi_graph.proofs.NeighbourCount.{occurs_append, neighbours_law}
+use Rattle.smi_graph.specs.NeighbourLists.{bit, occurs}
+use Rattle.smi_graph.proofs.JoinedAtoms.{joined_once, joined_true, joined_some, neighbour_count}
+use Rattle.smi_graph.proofs.SimpleBonds.{Simple}
+pub use Rattle.smi_mean.specs.CentrePlaces.{Fits}
 use Rattle.smi_mean.specs.CentrePlaces.{atom_slot, rest_if, has_rest, place_list, places, exchanged, said}
 use Rattle.mc_mol.proofs.Slots.{same_is, same_self}
 
@@ -110,118 +113,7 @@ count_rest o xs h =
     let c = count_no_rest xs in
     let d = rest_one (has_rest h (length (option_to_list o) + length xs)) in omega arith
 
--- Bonds that join no pair twice
-
--- how often these bonds join two atoms
-abbrev pub joined : ℕ → ℕ → List TextBond → ℕ
-joined a v bs = ends_weight (λ x. bit (x == v)) a bs
-
-end_is : (a v : ℕ) (b : TextBond) → end_weight (λ x. bit (x == v)) a b ≡ bit (b.first.0 == a && b.second.0 == v) + bit (b.first.0 == v && b.second.0 == a)
-end_is a v b = by_tests (b.first.0 == a) (b.second.0 == v) (b.first.0 == v) (b.second.0 == a)
-  where
-    by_tests : (s t p q : Bool) → (if s then bit t else 0) + (if q then bit p else 0) ≡ bit (s && t) + bit (p && q)
-    by_tests true t true true = refl
-    by_tests true t true false = refl
-    by_tests true t false true = refl
-    by_tests true t false false = refl
-    by_tests false t true true = refl
-    by_tests false t true false = refl
-    by_tests false t false true = refl
-    by_tests false t false false = refl
-
-some_joins : (s t : Bool) → 0 < bit s + bit t → (s || t) ≡ true
-some_joins true t h = refl
-some_joins false true h = refl
-some_joins false false h = absurd (omega arith)
-
-none_joins : (s t : Bool) → (s || t) ≡ false → bit s + bit t ≡ 0
-none_joins true t h = absurd (false≢true (sym h))
-none_joins false true h = absurd (false≢true (sym h))
-none_joins false false h = refl
-
-one_joins : (s t : Bool) → (s || t) ≡ true → 0 < bit s + bit t
-one_joins true t h = let b = bit_low t in omega arith
-  where
-    bit_low : (t : Bool) → 0 ≤ bit t
-    bit_low t = omega arith
-one_joins false true h = omega arith
-one_joins false false h = absurd (false≢true h)
-
-one_end : (a v : ℕ) (b : TextBond) → b.first.0 ≢ b.second.0 → bit (b.first.0 == a && b.second.0 == v) + bit (b.first.0 == v && b.second.0 == a) ≤ 1
-one_end a v b ne = by_tests (b.first.0 == a && b.second.0 == v) refl (b.first.0 == v && b.second.0 == a) refl
-  where
-    by_tests : (s : Bool) → (b.first.0 == a && b.second.0 == v) ≡ s → (t : Bool) → (b.first.0 == v && b.second.0 == a) ≡ t → bit s + bit t ≤ 1
-    by_tests true e true f =
-        let x = and_parts (b.first.0 == a) (b.second.0 == v) e in
-        let y = and_parts (b.first.0 == v) (b.second.0 == a) f in
-        absurd (ne (eqb-true b.first.0 a x.0 ∙ sym (eqb-true b.second.0 a y.1)))
-    by_tests true e false f = omega arith
-    by_tests false e true f = omega arith
-    by_tests false e false f = omega arith
-
-pub joined_true : (a v : ℕ) (bs : List TextBond) → 0 < joined a v bs → are_joined (map bond_of bs) a v ≡ true
-joined_true a v [] some = absurd (omega arith)
-joined_true a v (b ∷ bs) some = by_test (joins (bond_of b) a v) refl some (λ h. joined_true a v bs h)
-  where
-    by_test : (t : Bool) → joins (bond_of b) a v ≡ t → 0 < joined a v (b ∷ bs) → (0 < joined a v bs → are_joined (map bond_of bs) a v ≡ true)
-        → (t || are_joined (map bond_of bs) a v) ≡ true
-    by_test true e some more = refl
-    by_test false e some more =
-        let z = none_joins (b.first.0 == a && b.second.0 == v) (b.first.0 == v && b.second.0 == a) e in
-        let w = end_is a v b in
-        more (omega arith)
-
-pub joined_some : (a v : ℕ) (bs : List TextBond) → are_joined (map bond_of bs) a v ≡ true → 0 < joined a v bs
-joined_some a v [] h = absurd (false≢true h)
-joined_some a v (b ∷ bs) h = by_test (joins (bond_of b) a v) refl h (λ is. joined_some a v bs is)
-  where
-    by_test : (t : Bool) → joins (bond_of b) a v ≡ t → (t || are_joined (map bond_of bs) a v) ≡ true → (are_joined (map bond_of bs) a v ≡ true → 0 < joined a v bs)
-        → 0 < joined a v (b ∷ bs)
-    by_test true e is more =
-        let z = one_joins (b.first.0 == a && b.second.0 == v) (b.first.0 == v && b.second.0 == a) e in
-        let w = end_is a v b in omega arith
-    by_test false e is more = let r = more is in omega arith
-
-pub joined_once : (n a v : ℕ) (bs : List TextBond) → Simple n (map bond_of bs) → joined a v bs ≤ 1
-joined_once n a v [] s = omega arith
-joined_once n a v (b ∷ bs) s = by_test (joins (bond_of b) a v) refl (joined_once n a v bs s.1.1)
-  where
-    by_test : (t : Bool) → joins (bond_of b) a v ≡ t → joined a v bs ≤ 1 → joined a v (b ∷ bs) ≤ 1
-    by_test true e h =
-        let none : are_joined (map bond_of bs) a v ≡ false = alone (bond_of b) (map bond_of bs) a v s.1.0 e in
-        let one = one_end a v b s.0.1.1 in
-        let w = end_is a v b in
-        elim (cases_lt 0 (joined a v bs)) [
-          | inl some ↦ absurd (false≢true (sym none ∙ joined_true a v bs some))
-          | inr zero' ↦ omega arith
-        ]
-    by_test false e h =
-        let z = none_joins (b.first.0 == a && b.second.0 == v) (b.first.0 == v && b.second.0 == a) e in
-        let w = end_is a v b in omega arith
-
--- There are as many neighbours as bonds of the atom
-
-ends_one : (a : ℕ) (b : TextBond) → b.first.0 ≢ b.second.0 → end_weight (λ x. 1) a b ≡ (if touches (bond_of b) a then 1 else 0)
-ends_one a b ne = by_tests (b.first.0 == a) refl (b.second.0 == a) refl
-  where
-    by_tests : (s : Bool) → (b.first.0 == a) ≡ s → (t : Bool) → (b.second.0 == a) ≡ t → (if s then 1 else 0) + (if t then 1 else 0) ≡ (if s || t then 1 else 0)
-    by_tests true e true f = absurd (ne (eqb-true b.first.0 a e ∙ sym (eqb-true b.second.0 a f)))
-    by_tests true e false f = refl
-    by_tests false e true f = refl
-    by_tests false e false f = refl
-
-ends_degree : (n a : ℕ) (bs : List TextBond) → Simple n (map bond_of bs) → ends_weight (λ x. 1) a bs ≡ degree (map bond_of bs) a
-ends_degree n a [] s = refl
-ends_degree n a (b ∷ bs) s = let h = ends_degree n a bs s.1.1 in let e = ends_one a b s.0.1.1 in omega arith
-
-pub neighbour_count : (n a : ℕ) (ks : List Role) → Simple n (bonds_of (reverse ks)) → length (neighbours a ks) ≡ degree (bonds_of (reverse ks)) a
-neighbour_count n a ks s = length_law a ks ∙ ends_degree n a (text_bonds (reverse ks)) s
-
 -- The list
-
--- four neighbours and no hydrogen, or three and at most one
-abbrev pub Fits : ℕ → ℕ → Type 0
-Fits neighbours hydrogens = ((neighbours ≡ 4) × (hydrogens ≡ 0)) ⊎ ((neighbours ≡ 3) × (hydrogens ≤ 1))
 
 pub length_list : (o : Option ℕ) (xs : List ℕ) (h : ℕ) → Fits (length (option_to_list o ++ xs)) h → length (place_list o xs h) ≡ 4
 length_list o xs h fit =
@@ -256,26 +148,37 @@ said_count : (mark : Bool) (s : Slot) (xs : List Slot) → count s (said mark xs
 said_count true s xs = refl
 said_count false s xs = count_exchanged s xs
 
--- In a text whose bonds join no pair twice, the list of an atom with the right number of neighbours and hydrogens is a list
--- of its places: four, all different, and the atoms among them exactly its neighbours.
-pub place_list_is : (ks : List Role) (a n hydrogens : ℕ) (mark : Bool) → Simple n (bonds_of (reverse ks)) → Fits (degree (bonds_of (reverse ks)) a) hydrogens
-    → IsPlaceList (bonds_of (reverse ks)) a (said mark (places ks a hydrogens))
-place_list_is ks a n hydrogens mark s fit =
-    let o : Option ℕ = predecessor_of a (reverse ks) in
-    let xs : List ℕ = ring_partners a [] ks ++ followers a (reverse ks) in
-    let bonds : List TextBond = text_bonds (reverse ks) in
+-- Neighbours of the right number, each once, with the right number of hydrogens are a list of places: four, all different, and
+-- the atoms among them exactly the neighbours.
+pub place_list_by : (bonds : List Bond) (a hydrogens : ℕ) (mark : Bool) (o : Option ℕ) (xs : List ℕ)
+    → ((v : ℕ) → occurs v (option_to_list o ++ xs) ≤ 1) → ((v : ℕ) → (0 < occurs v (option_to_list o ++ xs)) ↔ (are_joined bonds a v ≡ true))
+    → Fits (length (option_to_list o ++ xs)) hydrogens → IsPlaceList bonds a (said mark (place_list o xs hydrogens))
+place_list_by bonds a hydrogens mark o xs once joined fit =
     let list : List Slot = said mark (place_list o xs hydrogens) in
-    let atoms : (v : ℕ) → count (atom_slot v) list ≡ joined a v bonds = λ v. said_count mark (atom_slot v) (place_list o xs hydrogens) ∙ count_neighbour v o xs hydrogens ∙ neighbours_law a v ks in
+    let atoms : (v : ℕ) → count (atom_slot v) list ≡ occurs v (option_to_list o ++ xs) = λ v. said_count mark (atom_slot v) (place_list o xs hydrogens) ∙ count_neighbour v o xs hydrogens in
     let rests : count Rest list ≤ 1 = subst (λ (k : ℕ). k ≤ 1) (sym (said_count mark Rest (place_list o xs hydrogens))) (count_rest o xs hydrogens) in
     record {
-      four = said_length mark (place_list o xs hydrogens) ∙ length_list o xs hydrogens (subst (λ (k : ℕ). Fits k hydrogens) (sym (neighbour_count n a ks s)) fit);
-      different = λ i j d less below same. let two = twice list i j d less below same in more (slice_index_or list i d) two (λ v. let e = atoms v in let o = joined_once n a v bonds s in omega arith) rests;
+      four = said_length mark (place_list o xs hydrogens) ∙ length_list o xs hydrogens fit;
+      different = λ i j d less below same. let two = twice list i j d less below same in more (slice_index_or list i d) two (λ v. let e = atoms v in let w = once v in omega arith) rests;
       neighbours = λ v. (
-        λ has. joined_true a v bonds (let e = atoms v in let c = count_of (atom_slot v) list has in omega arith),
-        λ is. contains_of (atom_slot v) list (let e = atoms v in let c = joined_some a v bonds is in omega arith),
+        λ has. (joined v).0 (let e = atoms v in let c = count_of (atom_slot v) list has in omega arith),
+        λ is. contains_of (atom_slot v) list (let e = atoms v in let c = (joined v).1 is in omega arith),
       );
     }
   where
-    more : (x : Slot) → 1 < count x (said mark (places ks a hydrogens)) → ((v : ℕ) → count (atom_slot v) (said mark (places ks a hydrogens)) ≤ 1) → count Rest (said mark (places ks a hydrogens)) ≤ 1 → ⊥
-    more (At v) two once rest = let o = once v.0 in omega arith
-    more Rest two once rest = omega arith
+    more : (x : Slot) → 1 < count x (said mark (place_list o xs hydrogens)) → ((v : ℕ) → count (atom_slot v) (said mark (place_list o xs hydrogens)) ≤ 1) → count Rest (said mark (place_list o xs hydrogens)) ≤ 1 → ⊥
+    more (At v) two each rest = let w = each v.0 in omega arith
+    more Rest two each rest = omega arith
+
+-- the list of an atom in a text whose bonds join no pair twice
+pub place_list_is : (ks : List Role) (a n hydrogens : ℕ) (mark : Bool) → Simple n (bonds_of (reverse ks)) → Fits (degree (bonds_of (reverse ks)) a) hydrogens
+    → IsPlaceList (bonds_of (reverse ks)) a (said mark (places ks a hydrogens))
+place_list_is ks a n hydrogens mark s fit =
+    let bonds : List TextBond = text_bonds (reverse ks) in
+    place_list_by (bonds_of (reverse ks)) a hydrogens mark (predecessor_of a (reverse ks)) (ring_partners a [] ks ++ followers a (reverse ks))
+    (λ v. let e = neighbours_law a v ks in let o = joined_once n a v bonds s in omega arith)
+    (λ v. (
+      λ some. joined_true a v bonds (let e = neighbours_law a v ks in omega arith),
+      λ is. let e = neighbours_law a v ks in let some = joined_some a v bonds is in omega arith,
+    ))
+    (subst (λ (k : ℕ). Fits k hydrogens) (sym (neighbour_count n a ks s)) fit)

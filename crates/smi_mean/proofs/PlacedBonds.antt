@@ -1,7 +1,7 @@
 -- Placements and barriers of a skeleton, by its candidates and placed bonds as lists.
 use Rattle.std.proofs.Common.{◌≡◌, ◌∙◌, ℕ, zero, suc, ◌+◌, ◌≤◌, ◌<◌, List, [], ◌∷◌, length, get_or, map, Bool, true, false, Some, refl, ap, sym, subst, inl, inr, arith}
 use Rattle.std.specs.List.{All, AllPairs}
-use Rattle.std.specs.Prelude.{slice_get, ◌&&◌, ◌||◌, if◌then◌else◌}
+use Rattle.std.specs.Prelude.{slice_get, ◌&&◌, if◌then◌else◌}
 use Rattle.std.proofs.lemmas.Bool.{false≢true, false_from_ne_true, and_parts, or_cases, or_from, or_left, or_right}
 use Rattle.mc_mol.specs.declared.parts.Bond.{Bond}
 use Rattle.mc_mol.specs.Molecule.{Molecule, bond_sum, touches, joins, are_joined}
@@ -9,24 +9,24 @@ use Rattle.mc_mol.specs.WellFormed.{IsBond}
 use Rattle.mc_mol.proofs.Apart.{joins_from, joins_ends}
 use Rattle.match_barrier.specs.Barrier.{one_if, IsBarrier}
 use Rattle.match_barrier.specs.Matching.{IsPerfect}
-use Rattle.match_barrier.proofs.Edges.{same_bools}
 use Rattle.mc_base.specs.declared.ids.AtomId.{AtomId}
 use Rattle.smi_graph.specs.declared.skel_atom.SkelAtom.{SkelAtom}
 use Rattle.smi_graph.specs.declared.text_bond.TextBond.{TextBond}
 use Rattle.smi_graph.specs.Candidates.{marked, IsCandidate, AreCandidates}
 use Rattle.smi_graph.specs.Rules.{atoms_in, bonds_in, text_bonds_in}
-use Rattle.smi_mean.specs.Meaning.{atoms_with, without_stereo, meaning}
+use Rattle.smi_mean.specs.Meaning.{atoms_with, without_stereo, meaning, with_centres}
+use Rattle.smi_mean.specs.MeantCentres.{text_centres}
 use Rattle.smi_graph.specs.Links.{bond_of}
 use Rattle.smi_graph.specs.Skeletons.{TextGraph, IsTextGraph, AreBonds}
 use Rattle.smi_mean.specs.Needs.{needs_in, needs}
 use Rattle.smi_mean.specs.Placements.{placed_at, IsPlacement, HasNoPlacement, raised_bond, raised, IsMoleculeOf}
 use Rattle.smi_mean.specs.Barriers.{needs_from, marked_from, needs_of, marked_bonds, IsNeedBarrier, number_of, IsBarrierIn}
 use Rattle.smi_mean.specs.Meant.{IsBarred}
-use Rattle.smi_mean.specs.NeedGraphs.{AreApart, AreInRange, counted, node_of, IsNeedGraph, is_mated, mated_from, chosen}
+use Rattle.smi_mean.specs.NeedGraphs.{AreApart, AreInRange, counted, IsNeedGraph, is_mated, mated_from, chosen}
 use Rattle.smi_mean.proofs.PlacementTest.{placement_by}
 use Rattle.smi_mean.proofs.FromMates.{mated_once}
 use Rattle.smi_mean.proofs.FromPlaced.{ArePlaced, mates_of, mates_of_placed}
-use Rattle.smi_mean.proofs.NeedBarriers.{need_barrier, node_barrier}
+use Rattle.smi_mean.proofs.NeedBarriers.{need_barrier}
 use Rattle.smi_mean.proofs.SomeGraph.{never_both}
 use Rattle.smi_mean.proofs.NodeGraphs.{apart_in_range}
 
@@ -266,7 +266,7 @@ unmarked_raised (b ∷ bonds) (p ∷ placed) none = by_mark p (none 0 (omega ari
 
 plain_is : (text : List ℕ) (m : Molecule) → ((k : ℕ) (b : TextBond) → slice_get (text_bonds_in text) k ≡ Some b → IsCandidate (atoms_in text) (text_bonds_in text) b → ⊥) → IsMoleculeOf text m → m ≡ meaning text
 plain_is text m plain is =
-    is.molecule ∙ ap (without_stereo (atoms_with (bonds_in text) 0 (atoms_in text))) (unmarked_raised (bonds_in text) is.placed (λ k less.
+    is.molecule ∙ ap (λ (bonds : List Bond). with_centres (text_centres text) (without_stereo (atoms_with (bonds_in text) 0 (atoms_in text)) bonds)) (unmarked_raised (bonds_in text) is.placed (λ k less.
     false_from_ne_true (marked is.placed k) (λ h.
     let same = bonds_count (text_bonds_in text) in
     let (b, at) = bond_at (text_bonds_in text) k (omega arith) in plain k b at (is.placement.candidates k b at h))))

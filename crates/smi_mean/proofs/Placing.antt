@@ -1,7 +1,6 @@
 -- Where no atom needs a double bond, none is placed; and the bonds of a placement.
-use Rattle.std.proofs.Common.{arith, ◌≡◌, ◌∙◌, ℕ, zero, suc, ◌+◌, ◌≤◌, ◌<◌, List, [], ◌∷◌, length, get_or, Bool, true, false, Some, refl, ap, sym, subst, inl, inr}
-use Rattle.std.specs.List.{All, AllPairs}
-use Rattle.std.specs.Prelude.{map, slice_get, ◌&&◌, ◌||◌, ◌==◌, if◌then◌else◌}
+use Rattle.std.proofs.Common.{arith, ◌≡◌, ◌∙◌, ℕ, zero, suc, ◌+◌, ◌≤◌, List, [], ◌∷◌, length, get_or, Bool, true, false, refl, ap, sym, inl, inr}
+use Rattle.std.specs.Prelude.{map, ◌&&◌, ◌||◌, ◌==◌, if◌then◌else◌}
 use Rattle.std.proofs.lemmas.Bool.{false≢true}
 use Rattle.std.proofs.lemmas.List.{length-map}
 use Rattle.mc_base.specs.declared.ids.AtomId.{AtomId}
@@ -19,8 +18,9 @@ use Rattle.smi_graph.specs.Candidates.{marked}
 use Rattle.smi_graph.specs.Links.{bond_of}
 use Rattle.smi_graph.specs.Rules.{atoms_in, bonds_in, text_bonds_in}
 use Rattle.smi_graph.specs.Skeletons.{TextGraph, AreBonds}
-use Rattle.smi_mean.specs.Meaning.{atoms_with, without_stereo, meaning_of, meaning}
-use Rattle.smi_mean.specs.Meant.{IsUnder, IsMeantBy, IsBarred, IsUnplaced, IsFaulty, CantBePlaced}
+use Rattle.smi_mean.specs.Meaning.{atoms_with, without_stereo, with_centres, meaning_of, meaning}
+use Rattle.smi_mean.specs.Meant.{AreRightMarks, CantBeMarked, CantBePlaced, IsBarred, IsFaulty, IsMeantBy, IsRefusedBy, IsUnmarkedBy, IsUnmarkedUnder, IsUnplaced}
+use Rattle.smi_mean.specs.MeantCentres.{centres_in, text_centres}
 use Rattle.smi_mean.specs.Needs.{needs}
 use Rattle.smi_mean.specs.Placements.{placed_at, IsPlacement, raised_bond, raised, meaning_under, IsMoleculeOf}
 
@@ -53,7 +53,7 @@ pub meaning_of_text : (text : List ℕ) → ((k : ℕ) → needs (atoms_in text)
 meaning_of_text text none = record {
   placed = none_placed (text_bonds_in text);
   placement = nothing_placed (atoms_in text) (text_bonds_in text) none;
-  molecule = sym (ap (without_stereo (atoms_with (bonds_in text) 0 (atoms_in text))) (none_raised (text_bonds_in text)));
+  molecule = sym (ap (λ (bonds : List bond.Bond). with_centres (text_centres text) (without_stereo (atoms_with (bonds_in text) 0 (atoms_in text)) bonds)) (none_raised (text_bonds_in text)));
 }
 
 -- It is the only one
@@ -80,7 +80,7 @@ raised_none (b ∷ bonds) (is_placed ∷ placed) none = by_test is_placed (none 
 
 pub only_meaning : (text : List ℕ) (m : Molecule) → ((k : ℕ) → needs (atoms_in text) (bonds_in text) k ≡ false) → IsMoleculeOf text m → m ≡ meaning text
 only_meaning text m none is =
-    is.molecule ∙ ap (without_stereo (atoms_with (bonds_in text) 0 (atoms_in text)))
+    is.molecule ∙ ap (λ (bonds : List bond.Bond). with_centres (text_centres text) (without_stereo (atoms_with (bonds_in text) 0 (atoms_in text)) bonds))
     (raised_none (bonds_in text) is.placed (λ a. is.placement.once a ∙ ap (λ (t : Bool). if t then 1 else 0) (none a)))
 
 -- Bonds stay bonds
@@ -138,7 +138,7 @@ raised_sound n placed bonds sound =
 -- What is placed is a molecule of the skeleton
 
 pub is_under : (skeleton : TextGraph) (m : Molecule) (placed : List Bool) → IsPlacement skeleton.atoms skeleton.bonds placed
-    → m ≡ meaning_under skeleton.atoms (map bond_of skeleton.bonds) placed → IsUnder skeleton m
+    → m ≡ meaning_under skeleton.atoms (map bond_of skeleton.bonds) placed → IsUnmarkedUnder skeleton m
 is_under skeleton m placed placement molecule = record { placed = placed; placement = placement; molecule = molecule }
 
 pub cant_be_placed : (skeleton : TextGraph) (barrier : List AtomId) (odd : ℕ) → IsBarred skeleton barrier odd
@@ -148,7 +148,7 @@ cant_be_placed skeleton barrier odd barred = record { kind = refl; place = refl;
 -- with no need, the molecule in which nothing is placed
 pub meant_alone : (skeleton : TextGraph) (m : Molecule) → ((k : ℕ) → overvalent_at (meaning_of skeleton.atoms (map bond_of skeleton.bonds)) k ≡ false)
     → ((k : ℕ) → hydrogen_on_hydrogen_at (meaning_of skeleton.atoms (map bond_of skeleton.bonds)) k ≡ false)
-    → ((k : ℕ) → needs skeleton.atoms (map bond_of skeleton.bonds) k ≡ false) → m ≡ meaning_of skeleton.atoms (map bond_of skeleton.bonds) → IsMeantBy skeleton m
+    → ((k : ℕ) → needs skeleton.atoms (map bond_of skeleton.bonds) k ≡ false) → m ≡ meaning_of skeleton.atoms (map bond_of skeleton.bonds) → IsUnmarkedBy skeleton m
 meant_alone skeleton m valences hydrogens none is = record {
   right = record { valences = valences; hydrogens = hydrogens };
   under = record {
@@ -159,10 +159,27 @@ meant_alone skeleton m valences hydrogens none is = record {
 }
 
 pub meant_placed : (skeleton : TextGraph) (m : Molecule) → ((k : ℕ) → overvalent_at (meaning_of skeleton.atoms (map bond_of skeleton.bonds)) k ≡ false)
-    → ((k : ℕ) → hydrogen_on_hydrogen_at (meaning_of skeleton.atoms (map bond_of skeleton.bonds)) k ≡ false) → IsUnder skeleton m → IsMeantBy skeleton m
+    → ((k : ℕ) → hydrogen_on_hydrogen_at (meaning_of skeleton.atoms (map bond_of skeleton.bonds)) k ≡ false) → IsUnmarkedUnder skeleton m → IsUnmarkedBy skeleton m
 meant_placed skeleton m valences hydrogens under = record { right = record { valences = valences; hydrogens = hydrogens }; under = under }
 
 pub faulty_placed : (skeleton : TextGraph) (stop : Stop) → ((k : ℕ) → overvalent_at (meaning_of skeleton.atoms (map bond_of skeleton.bonds)) k ≡ false)
     → ((k : ℕ) → hydrogen_on_hydrogen_at (meaning_of skeleton.atoms (map bond_of skeleton.bonds)) k ≡ false) → CantBePlaced skeleton stop → IsFaulty skeleton stop
 faulty_placed skeleton (Refused refusal) valences hydrogens unplaced = inr (record { right = record { valences = valences; hydrogens = hydrogens }; unplaced = unplaced })
 faulty_placed skeleton NoMemory valences hydrogens unplaced = tt
+
+-- With its marks
+
+pub meant_marked : (skeleton : TextGraph) (m new : Molecule) → IsUnmarkedBy skeleton m → new ≡ with_centres (centres_in skeleton) m → AreRightMarks skeleton new → IsMeantBy skeleton new
+meant_marked skeleton m new is same right = record {
+  right = is.right;
+  under = record { placed = is.under.placed; placement = is.under.placement; molecule = same ∙ ap (with_centres (centres_in skeleton)) is.under.molecule };
+  marks = right;
+}
+
+pub refused_marked : (skeleton : TextGraph) (m : Molecule) (stop : Stop) → IsUnmarkedBy skeleton m → CantBeMarked skeleton m stop → IsRefusedBy skeleton stop
+refused_marked skeleton m (Refused refusal) is marked = inr (record { m = m; unmarked = is; marked = marked })
+refused_marked skeleton m NoMemory is marked = tt
+
+pub refused_early : (skeleton : TextGraph) (stop : Stop) → IsFaulty skeleton stop → IsRefusedBy skeleton stop
+refused_early skeleton (Refused refusal) faulty = inl faulty
+refused_early skeleton NoMemory faulty = tt

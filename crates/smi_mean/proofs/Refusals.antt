@@ -1,17 +1,18 @@
 -- The first kind that stands in a text.
-use Rattle.std.proofs.Common.{arith, ◌≡◌, ◌∙◌, ℕ, ◌+◌, ◌≤◌, ◌<◌, List, [], length, Bool, true, false, Some, None, refl, sym, ap, subst, inl, inr}
+use Rattle.std.proofs.Common.{arith, ◌≡◌, ◌∙◌, ℕ, ◌+◌, ◌≤◌, ◌<◌, List, [], length, Bool, false, Option, Some, None, refl, sym, ap, subst, inl, inr}
 use Rattle.std.specs.Prelude.{map, ◌⊎◌}
-use Rattle.std.proofs.lemmas.Bool.{cases_lt, false_from_ne_true}
+use Rattle.std.proofs.lemmas.Bool.{cases_lt}
 use Rattle.std.proofs.lemmas.Option.{slice_get_past}
 use Rattle.mc_base.specs.declared.kind.Kind.{Kind}
 use Rattle.mc_base.specs.declared.ids.AtomId.{AtomId}
-use Rattle.mc_base.specs.declared.kind.Kind.TheVariants.{NotBuilt, BadToken, Wildcard, OtherChirality, BadOrder, ParenOpen, RingOpen, RingClash, RingPair, AromaticBond, LimitAtoms, LimitBonds, LimitRings, LimitIsotope, LimitClass, LimitCharge, LimitValence, HydrogenOnHydrogen, NoPlacement}
+use Rattle.mc_base.specs.declared.kind.Kind.TheVariants.{NotBuilt, BadToken, Wildcard, OtherChirality, BadOrder, ParenOpen, RingOpen, RingClash, RingPair, AromaticBond, LimitAtoms, LimitBonds, LimitRings, LimitIsotope, LimitClass, LimitCharge, LimitValence, HydrogenOnHydrogen, NoPlacement, NotACentre}
 use Rattle.mc_base.specs.declared.refusal.Refusal.{Refusal}
 use Rattle.mc_base.specs.declared.refusal.Stop.{Stop}
 use Rattle.mc_base.specs.declared.refusal.Stop.TheVariants.{Refused, NoMemory}
 use Rattle.mc_base.specs.Kinds.{number}
 use Rattle.mc_base.specs.Shown.{HasReason, IsFirst}
 use Rattle.mc_mol.specs.declared.parts.Bond.{Bond}
+use Rattle.mc_mol.specs.declared.parts.Slot.{Slot}
 use Rattle.mc_mol.specs.Molecule.{Molecule}
 use Rattle.mc_mol.specs.Limits.{overvalent_at, hydrogen_on_hydrogen_at}
 use Rattle.smi_graph.specs.declared.skel_atom.SkelAtom.{SkelAtom}
@@ -21,16 +22,21 @@ use Rattle.smi_graph.specs.declared.text_bond.TextBond.{TextBond}
 use Rattle.smi_graph.specs.Links.{bond_of}
 use Rattle.smi_graph.specs.Skeletons.{TextGraph, IsSkeleton, IsNoBarrier, IsBroken}
 use Rattle.smi_graph.proofs.TokenFaults.{not_both, earliest}
-use Rattle.smi_mean.specs.Meaning.{meaning_of}
-use Rattle.smi_mean.specs.Placements.{IsPlacement, HasNoPlacement, meaning_under, IsMoleculeOf}
+use Rattle.smi_mean.specs.Meaning.{meaning_of, with_centres}
+use Rattle.smi_mean.specs.MeantCentres.{text_centres}
+use Rattle.smi_mean.specs.Placements.{IsPlacement, HasNoPlacement, meaning_under}
 use Rattle.smi_mean.specs.Barriers.{IsBarrierIn, IsTextBarrier}
 use Rattle.smi_mean.specs.Rules.{IsWrongAtom, IsWrongIn, StandsAt, NoneStands, SmilesStands, IsRefused}
-use Rattle.smi_mean.specs.Meant.{IsRight, IsMeantBy, IsUnplacedRight, IsFaulty}
+use Rattle.smi_mean.specs.Meant.{IsRight, IsMeantBy, IsMarkedWrongly, IsRefusedBy, IsFaulty}
+use Rattle.smi_mean.specs.WrongCentres.{NotACentreAt}
+use Rattle.smi_mean.proofs.CentresRead.{centres_read}
 use Rattle.smi_mean.proofs.Needing.{overvalent_same}
+use Rattle.smi_mean.proofs.WrongMarks.{none_before, right_nowhere, wrong_stands as mark_stands}
 
 -- what breaks the tokens of a text stands in it
 breaks_stands : (text : List ℕ) (kind : Kind) (place : ℕ) → BreaksAt text kind place → StandsAt text kind place
 breaks_stands text NoPlacement place h = absurd h
+breaks_stands text NotACentre place h = absurd h
 breaks_stands text LimitValence place h = absurd h
 breaks_stands text HydrogenOnHydrogen place h = absurd h
 breaks_stands text _ place h = h
@@ -52,13 +58,26 @@ wrong_stands text LimitValence place h = h
 wrong_stands text HydrogenOnHydrogen place h = h
 wrong_stands text _ place h = absurd h
 
--- nothing else stands but that there is no placement
+-- there is no placement
 record IsNowhere (text : List ℕ) (kind : Kind) : Type 0 where
   number_is : number kind ≡ 39
   none : HasNoPlacement (atoms_in text) (text_bonds_in text)
 
-cases : (text : List ℕ) (kind : Kind) (place : ℕ) → StandsAt text kind place → BreaksAt text kind place ⊎ (IsWrongIn (atoms_in text) (bonds_in text) kind place ⊎ IsNowhere text kind)
-cases text NoPlacement place h = inr (inr (record { number_is = refl; none = h.1 }))
+-- a mark is wrong
+record IsMarkedAt (text : List ℕ) (kind : Kind) (place : ℕ) : Type 0 where
+  number_is : number kind ≡ 40
+  stands : NotACentreAt text place
+
+abbrev IsLate : List ℕ → Kind → ℕ → Type 0
+IsLate text kind place = IsNowhere text kind ⊎ IsMarkedAt text kind place
+
+late : (text : List ℕ) (kind : Kind) (place : ℕ) → IsLate text kind place → 39 ≤ number kind
+late text kind place (inl p) = let is = p.number_is in omega arith
+late text kind place (inr p) = let is = p.number_is in omega arith
+
+cases : (text : List ℕ) (kind : Kind) (place : ℕ) → StandsAt text kind place → BreaksAt text kind place ⊎ (IsWrongIn (atoms_in text) (bonds_in text) kind place ⊎ IsLate text kind place)
+cases text NoPlacement place h = inr (inr (inl (record { number_is = refl; none = h.1 })))
+cases text NotACentre place h = inr (inr (inr (record { number_is = refl; stands = h })))
 cases text LimitValence place h = inr (inl h)
 cases text HydrogenOnHydrogen place h = inr (inl h)
 cases text _ place h = inl h
@@ -106,15 +125,15 @@ first_stands text r f =
       least = λ place h. elim (cases text r.kind place h) [
         | inl b ↦ f.least place b
         | inr later ↦ elim later [
-          | inl w ↦ let late = wrong_late (atoms_in text) (bonds_in text) r.kind place w in absurd (omega arith)
-          | inr p ↦ let late = p.number_is in absurd (omega arith)
+          | inl w ↦ let after = wrong_late (atoms_in text) (bonds_in text) r.kind place w in absurd (omega arith)
+          | inr p ↦ let after = late text r.kind place p in absurd (omega arith)
         ]
       ];
       first = λ kind place less h. elim (cases text kind place h) [
         | inl b ↦ f.first kind place less b
         | inr later ↦ elim later [
-          | inl w ↦ let late = wrong_late (atoms_in text) (bonds_in text) kind place w in absurd (omega arith)
-          | inr p ↦ let late = p.number_is in absurd (omega arith)
+          | inl w ↦ let after = wrong_late (atoms_in text) (bonds_in text) kind place w in absurd (omega arith)
+          | inr p ↦ let after = late text kind place p in absurd (omega arith)
         ]
       ];
       reason = reason_kept (IsTextBarrier text) r.kind r.barrier r.odd f.reason;
@@ -208,14 +227,14 @@ shows_faulty text r accepted f =
         | inl b ↦ absurd (accepted r.kind place b)
         | inr later ↦ elim later [
           | inl w ↦ f.least place w
-          | inr p ↦ let late = p.number_is in absurd (omega arith)
+          | inr p ↦ let after = late text r.kind place p in absurd (omega arith)
         ]
       ];
       first = λ kind place less h. elim (cases text kind place h) [
         | inl b ↦ accepted kind place b
         | inr later ↦ elim later [
           | inl w ↦ f.first kind place less w
-          | inr p ↦ let late = p.number_is in absurd (omega arith)
+          | inr p ↦ let after = late text kind place p in absurd (omega arith)
         ]
       ];
       reason = reason_kept (IsTextBarrier text) r.kind r.barrier r.odd f.reason;
@@ -240,7 +259,7 @@ shows_unplaced text barrier odd accepted right barrier_is none = record {
     | inl b ↦ accepted kind place b
     | inr later ↦ elim later [
       | inl w ↦ none_wrong_in (atoms_in text) (bonds_in text) right kind place w
-      | inr p ↦ let late = p.number_is in absurd (omega arith)
+      | inr p ↦ let after = late text kind place p in absurd (omega arith)
     ]
   ];
   reason = barrier_is;
@@ -253,7 +272,7 @@ unplaced_is r kind place = made r.kind r.place r.barrier r.odd kind place
     made k p barrier odd e f = rw (e, f) refl
 
 -- a refusal of the skeleton's molecules is one of the text
-pub refused_of_faulty : (text : List ℕ) (skeleton : TextGraph) (stop : Stop) → IsSkeleton text skeleton → IsFaulty skeleton stop → IsRefused text stop
+refused_of_faulty : (text : List ℕ) (skeleton : TextGraph) (stop : Stop) → IsSkeleton text skeleton → IsFaulty skeleton stop → IsRefused text stop
 refused_of_faulty text skeleton (Refused r) s (inl h) =
     shows_faulty text r s.accepted (at_text (λ atoms bonds. SkeletonFaulty atoms bonds r) text skeleton s (of_molecule skeleton.atoms (map bond_of skeleton.bonds) r h))
 refused_of_faulty text skeleton (Refused r) s (inr u) =
@@ -262,6 +281,36 @@ refused_of_faulty text skeleton (Refused r) s (inr u) =
     (at_bonds (λ atoms bonds. IsBarrierIn atoms bonds r.barrier r.odd) text skeleton s u.unplaced.barred.barrier_is)
     (at_bonds HasNoPlacement text skeleton s u.unplaced.barred.none))
 refused_of_faulty text skeleton NoMemory s h = tt
+
+-- the first wrong mark is the first kind that stands
+shows_marked : (text : List ℕ) (skeleton : TextGraph) (r : Refusal) → IsSkeleton text skeleton → IsMarkedWrongly skeleton r → IsFirst (StandsAt text) (IsTextBarrier text) r
+shows_marked text skeleton r s is =
+    let m : Molecule = is.m in
+    let under = is.unmarked.under in
+    let rings = is.marked.rings in
+    let wrong = is.marked.wrong in
+    let placement : IsPlacement (atoms_in text) (text_bonds_in text) under.placed = at_bonds (λ atoms bonds. IsPlacement atoms bonds under.placed) text skeleton s under.placement in
+    subst (IsFirst (StandsAt text) (IsTextBarrier text)) (sym wrong.is) (record {
+      stands = mark_stands text skeleton m rings wrong.k s under is.marked.are_rings wrong.wrong;
+      least = λ place h. none_before text skeleton m rings wrong.k s under is.marked.are_rings wrong.before place h;
+      first = λ kind place less h. elim (cases text kind place h) [
+        | inl b ↦ s.accepted kind place b
+        | inr later ↦ elim later [
+          | inl w ↦ none_wrong_in (atoms_in text) (bonds_in text) (right_at_text text skeleton s is.unmarked.right) kind place w
+          | inr p ↦ elim p [
+            | inl nowhere ↦ nowhere.none under.placed placement
+            | inr marked ↦ let after = marked.number_is in absurd (omega arith)
+          ]
+        ]
+      ];
+      reason = (refl, refl);
+    })
+
+-- a refusal of the skeleton is one of the text
+pub refused_of_skeleton : (text : List ℕ) (skeleton : TextGraph) (stop : Stop) → IsSkeleton text skeleton → IsRefusedBy skeleton stop → IsRefused text stop
+refused_of_skeleton text skeleton (Refused r) s (inl h) = refused_of_faulty text skeleton (Refused r) s h
+refused_of_skeleton text skeleton (Refused r) s (inr h) = shows_marked text skeleton r s h
+refused_of_skeleton text skeleton NoMemory s h = tt
 
 -- A text with no broken token and no wrong atom stands for the molecule of its skeleton under a placement.
 pub stands_of : (text : List ℕ) (skeleton : TextGraph) (m : Molecule) → IsSkeleton text skeleton → IsMeantBy skeleton m → SmilesStands text m
@@ -272,13 +321,17 @@ stands_of text skeleton m s h =
         | inl b ↦ s.accepted kind place b
         | inr later ↦ elim later [
           | inl a ↦ none_wrong_in (atoms_in text) (bonds_in text) (right_at_text text skeleton s h.right) kind place a
-          | inr p ↦ p.none h.under.placed placement
+          | inr p ↦ elim p [
+            | inl nowhere ↦ nowhere.none h.under.placed placement
+            | inr marked ↦ right_nowhere text skeleton m place s h.under h.marks marked.stands
+          ]
         ]
       ];
       molecule = record {
         placed = h.under.placed;
         placement = placement;
-        molecule = at_bonds (λ atoms bonds. m ≡ meaning_under atoms (map bond_of bonds) h.under.placed) text skeleton s h.under.molecule;
+        molecule = at_bonds (λ atoms bonds. m ≡ with_centres (text_centres text) (meaning_under atoms (map bond_of bonds) h.under.placed)) text skeleton s
+            (h.under.molecule ∙ ap (λ (centres : List (Option (List Slot))). with_centres centres (meaning_under skeleton.atoms (map bond_of skeleton.bonds) h.under.placed)) (centres_read text skeleton s));
       };
     }
 

@@ -1,12 +1,10 @@
 -- What a text stands for is within the limits.
-use Rattle.std.proofs.Common.{arith, ◌≡◌, ◌∙◌, ℕ, zero, suc, ◌+◌, ◌-◌, ◌≤◌, ◌<◌, List, [], ◌∷◌, length, Bool, true, false, Option, Some, None, refl, sym, ap, subst}
+use Rattle.std.proofs.Common.{arith, ◌≡◌, ◌∙◌, ℕ, ◌+◌, ◌-◌, ◌≤◌, ◌<◌, List, length, Bool, true, false, Option, Some, None, refl, sym, ap, subst}
 use Rattle.std.specs.Prelude.{map, slice_get, option_map, nat_abs, nat_lt, if◌then◌else◌}
 use Rattle.std.proofs.lemmas.Bool.Decides.{nat_tests}
 use Rattle.std.proofs.lemmas.Bool.{false_from_ne_true, ltb-false}
 use Rattle.mc_base.specs.declared.kind.Kind.TheVariants.{LimitRings, LimitIsotope, LimitClass, LimitCharge}
-use Rattle.mc_elements.specs.Valences.{implied, smiles_valences}
 use Rattle.mc_mol.specs.declared.parts.Atom.{Atom}
-use Rattle.mc_mol.specs.declared.parts.Bond.{Bond}
 use Rattle.mc_mol.specs.Molecule.{Molecule, bond_sum}
 use Rattle.mc_mol.specs.Parts.{independent_rings}
 use Rattle.mc_mol.specs.declared.limits.TheConstants.{RING_LIMIT, ISOTOPE_LIMIT, CLASS_LIMIT, CHARGE_LIMIT}
@@ -18,10 +16,12 @@ use Rattle.smi_graph.specs.Rules.{atoms_in, bonds_in, fails, has_high_isotope, h
 use Rattle.smi_graph.specs.declared.text_bond.TextBond.{TextBond}
 use Rattle.smi_graph.specs.Links.{bond_of}
 use Rattle.smi_graph.specs.Skeletons.{TextGraph, IsSkeleton}
-use Rattle.smi_mean.specs.Meaning.{bare_hydrogens, hydrogens_of, meant_atom, atoms_with}
+use Rattle.smi_mean.specs.Meaning.{bare_hydrogens, hydrogens_of, meant_atom, atoms_with, with_centres}
+use Rattle.smi_mean.specs.MeantCentres.{centres_in}
 use Rattle.smi_mean.specs.Meant.{IsMeantBy}
 use Rattle.smi_mean.specs.Placements.{meaning_under}
 use Rattle.smi_mean.specs.Sound.{IsSound}
+use Rattle.smi_mean.proofs.CentresMarked.{centres_may}
 use Rattle.smi_mean.proofs.MeantAtoms.{meant_at, length_atoms}
 use Rattle.smi_mean.proofs.Needing.{overvalent_same}
 use Rattle.smi_mean.proofs.Raised.{overvalent_under, rings_raised}
@@ -54,8 +54,10 @@ few_hydrogens a sum few = by_test a.bare
 pub sound_of : (text : List ℕ) (skeleton : TextGraph) (m : Molecule) → IsReading text 0 (tokens text) (length text - length (unread text)) → IsSkeleton text skeleton → IsMeantBy skeleton m → IsSound m
 sound_of text skeleton m reading s h =
     let placed : List Bool = h.under.placed in
-    let is : m ≡ meaning_under (atoms_in text) (bonds_in text) placed =
-    h.under.molecule ∙ (ap (λ (x : List SkelAtom). meaning_under x (map bond_of skeleton.bonds) placed) s.atoms ∙ ap (λ (x : List TextBond). meaning_under (atoms_in text) (map bond_of x) placed) s.bonds) in
+    let is : m ≡ with_centres (centres_in skeleton) (meaning_under (atoms_in text) (bonds_in text) placed) =
+    h.under.molecule
+    ∙ (ap (λ (x : List SkelAtom). with_centres (centres_in skeleton) (meaning_under x (map bond_of skeleton.bonds) placed)) s.atoms
+    ∙ ap (λ (x : List TextBond). with_centres (centres_in skeleton) (meaning_under (atoms_in text) (map bond_of x) placed)) s.bonds) in
     let rings : independent_rings (bonds_in text) (length (atoms_in text)) ≤ RING_LIMIT = below (independent_rings (bonds_in text) (length (atoms_in text))) RING_LIMIT (λ place w. s.accepted LimitRings place w) in
     let len : length (atoms_with (bonds_in text) 0 (atoms_in text)) ≡ length (atoms_in text) = length_atoms (bonds_in text) 0 (atoms_in text) in
     record {
@@ -69,7 +71,7 @@ sound_of text skeleton m reading s h =
             ∙ overvalent_same skeleton.atoms (map bond_of skeleton.bonds) k ∙ h.right.valences k;
         hydrogens = λ k. ap (λ (x : Molecule). hydrogen_on_hydrogen_at x k) h.under.molecule ∙ h.right.hydrogens k;
       };
-      no_centres = rw is refl;
+      centres = λ a places at. centres_may skeleton m a places h.under h.marks at;
       no_sides = rw is refl;
     }
   where

@@ -1,7 +1,7 @@
 -- The places of a centre: OpenSMILES 1.0, section 3.9.2 (tetrahedral centres). That a centre with three neighbours and no
 -- hydrogen has a further place, where the hydrogen would stand, is this project's own.
 use Rattle.std.specs.Option.{option_to_list}
-use Rattle.std.specs.Prelude.{ℕ, ◌+◌, Bool, true, false, ◌||◌, List, [], ◌∷◌, ◌++◌, Option, Some, None, ◌==◌, nat_lt, length, map, reverse}
+use Rattle.std.specs.Prelude.{◌≡◌, ◌≤◌, ◌⊎◌, ℕ, ◌+◌, Bool, true, false, ◌||◌, List, [], ◌∷◌, ◌++◌, Option, Some, None, ◌==◌, nat_lt, length, map, reverse}
 use Rattle.mc_mol.specs.declared.parts.Slot.{Slot}
 use Rattle.mc_mol.specs.declared.parts.Slot.TheVariants.{At, Rest}
 use Rattle.smi_graph.specs.declared.role.Role.{Role}
@@ -27,6 +27,16 @@ place_list before others hydrogens =
 -- the places of atom a of a text, which has so many hydrogens
 abbrev pub places : List Role → ℕ → ℕ → List Slot
 places ks a hydrogens = place_list (predecessor_of a (reverse ks)) (ring_partners a [] ks ++ followers a (reverse ks)) hydrogens
+
+-- the same by the list of neighbours, of which the first is the predecessor or there is none
+abbrev pub places_by : Bool → List ℕ → ℕ → List Slot
+places_by true [] hydrogens = place_list None [] hydrogens
+places_by true (x ∷ xs) hydrogens = place_list (Some x) xs hydrogens
+places_by false xs hydrogens = place_list None xs hydrogens
+
+-- four neighbours and no hydrogen, or three and at most one: then there are four places
+abbrev pub Fits : ℕ → ℕ → Type 0
+Fits neighbours hydrogens = ((neighbours ≡ 4) × (hydrogens ≡ 0)) ⊎ ((neighbours ≡ 3) × (hydrogens ≤ 1))
 
 -- the last two exchanged
 abbrev pub exchanged : List Slot → List Slot

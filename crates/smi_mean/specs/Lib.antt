@@ -13,4 +13,6 @@ pub mod NeedGraphs
 pub mod BarrierTests
 pub mod Written
 pub mod CentrePlaces
+pub mod MeantCentres
+pub mod WrongCentres
 pub mod WrittenPlaces

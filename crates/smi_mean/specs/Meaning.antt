@@ -1,13 +1,15 @@
--- The molecule of a skeleton: OpenSMILES 1.0, sections 3.1 (atoms), 3.1.5 (hydrogens of the organic subset) and 3.5
--- (aromaticity). The hydrogens of a bare atom in lower case are this project's own.
+-- The molecule of a skeleton: OpenSMILES 1.0, sections 3.1 (atoms), 3.1.5 (hydrogens of the organic subset), 3.5
+-- (aromaticity) and 3.9.2 (centres). The hydrogens of a bare atom in lower case are this project's own.
 use Rattle.std.specs.Prelude.{ℕ, ◌+◌, ◌-◌, Bool, List, [], ◌∷◌, Option, None, if◌then◌else◌}
 use Rattle.mc_elements.specs.declared.element.Element.{Element}
 use Rattle.mc_elements.specs.Valences.{smiles_valences, implied}
 use Rattle.mc_mol.specs.declared.parts.Atom.{Atom}
 use Rattle.mc_mol.specs.declared.parts.Bond.{Bond}
+use Rattle.mc_mol.specs.declared.parts.Slot.{Slot}
 use Rattle.mc_mol.specs.Molecule.{Molecule, bond_sum}
 use Rattle.smi_graph.specs.declared.skel_atom.SkelAtom.{SkelAtom}
 use Rattle.smi_graph.specs.Rules.{atoms_in, bonds_in}
+use Rattle.smi_mean.specs.MeantCentres.{text_centres}
 
 abbrev pub lowest : List ℕ → ℕ
 lowest [] = 0
@@ -44,9 +46,13 @@ nones (x ∷ xs) = None ∷ nones xs
 abbrev pub without_stereo : List Atom → List Bond → Molecule
 without_stereo atoms bonds = record { atoms = atoms; bonds = bonds; centres = nones atoms; sides = nones bonds }
 
+-- the same molecule with these centres
+abbrev pub with_centres : List (Option (List Slot)) → Molecule → Molecule
+with_centres centres m = record m { centres = centres }
+
 abbrev pub meaning_of : List SkelAtom → List Bond → Molecule
 meaning_of atoms bonds = without_stereo (atoms_with bonds 0 atoms) bonds
 
--- the molecule of a text's skeleton in which no double bond is placed
+-- the molecule of a text in which no double bond is placed
 abbrev pub meaning : List ℕ → Molecule
-meaning text = meaning_of (atoms_in text) (bonds_in text)
+meaning text = with_centres (text_centres text) (meaning_of (atoms_in text) (bonds_in text))

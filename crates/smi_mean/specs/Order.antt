@@ -1,5 +1,5 @@
 -- The order in which the atoms of a molecule are written (this project's own). Steps stand the latest first.
-use Rattle.std.specs.Prelude.{ℕ, zero, suc, Bool, true, false, not, ◌&&◌, ◌||◌, List, [], ◌∷◌, ◌++◌, Option, Some, None, ◌==◌, length, option_map, if◌then◌else◌}
+use Rattle.std.specs.Prelude.{ℕ, zero, suc, Bool, true, false, not, ◌&&◌, ◌||◌, List, [], ◌∷◌, ◌++◌, Option, Some, None, ◌==◌, length, get_or, option_map, if◌then◌else◌}
 use Rattle.mc_mol.specs.declared.parts.Bond.{Bond}
 use Rattle.mc_mol.specs.Molecule.{Molecule, joins, are_joined}
 use Rattle.smi_graph.specs.Links.{or_else}
@@ -88,3 +88,19 @@ parents (s ∷ before) = parents before ++ parent_rank before s.parent ∷ []
 abbrev pub atoms : List Step → List ℕ
 atoms [] = []
 atoms (s ∷ before) = atoms before ++ s.atom ∷ []
+
+-- the atom of a rank, from 0
+abbrev pub at : Graph → ℕ → ℕ
+at g k = get_or (atoms (order g)) k 0
+
+abbrev pub before_one : ℕ → ℕ
+before_one zero = 0
+before_one (suc k) = k
+
+-- the rank, from 0, of an atom
+abbrev pub rank_of : Graph → ℕ → ℕ
+rank_of g u = before_one (rank (order g) u)
+
+-- whether the atoms of these ranks have a bond that leads to no parent
+abbrev pub has_ring : Graph → ℕ → ℕ → Bool
+has_ring g j l = g.joined (at g j) (at g l) && not (get_or (parents (order g)) l 0 == suc j)

@@ -8,7 +8,8 @@ use Rattle.smi_graph.specs.declared.text_bond.TextBond.{TextBond}
 use Rattle.smi_graph.specs.Candidates.{IsCandidate, marked}
 use Rattle.smi_graph.specs.Links.{bond_of}
 use Rattle.smi_graph.specs.Rules.{atoms_in, text_bonds_in}
-use Rattle.smi_mean.specs.Meaning.{atoms_with, without_stereo}
+use Rattle.smi_mean.specs.Meaning.{atoms_with, without_stereo, with_centres}
+use Rattle.smi_mean.specs.MeantCentres.{text_centres}
 use Rattle.smi_mean.specs.Needs.{needs}
 
 -- how many of the placed bonds touch an atom
@@ -41,12 +42,12 @@ raised placed [] = []
 raised [] (b ∷ bonds) = b ∷ bonds
 raised (is_placed ∷ placed) (b ∷ bonds) = raised_bond is_placed b ∷ raised placed bonds
 
--- The molecule of a skeleton under a placement. Its atoms depend on no placement.
+-- The molecule of a skeleton under a placement, but for its stereo. Its atoms depend on no placement.
 abbrev pub meaning_under : List SkelAtom → List bond.Bond → List Bool → Molecule
 meaning_under atoms bonds placed = without_stereo (atoms_with bonds 0 atoms) (raised placed bonds)
 
--- for some placement a molecule is that of the text under it
+-- For some placement a molecule is that of the text under it. Its centres are those that the marks of the text say.
 pub record IsMoleculeOf (text : List ℕ) (m : Molecule) : Type 0 where
   pub placed : List Bool
   pub placement : IsPlacement (atoms_in text) (text_bonds_in text) placed
-  pub molecule : m ≡ meaning_under (atoms_in text) (map bond_of (text_bonds_in text)) placed
+  pub molecule : m ≡ with_centres (text_centres text) (meaning_under (atoms_in text) (map bond_of (text_bonds_in text)) placed)

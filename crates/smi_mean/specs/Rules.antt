@@ -1,7 +1,7 @@
 -- What a text stands for, and the rules of the kinds for which it is refused.
 use Rattle.std.specs.Prelude.{◌≡◌, ℕ, ◌+◌, Bool, true, List, slice_get, if◌then◌else◌}
 use Rattle.mc_base.specs.declared.kind.Kind.{Kind}
-use Rattle.mc_base.specs.declared.kind.Kind.TheVariants.{LimitValence, HydrogenOnHydrogen, NoPlacement}
+use Rattle.mc_base.specs.declared.kind.Kind.TheVariants.{LimitValence, HydrogenOnHydrogen, NoPlacement, NotACentre}
 use Rattle.mc_base.specs.declared.refusal.Stop.{Stop}
 use Rattle.mc_base.specs.declared.refusal.Stop.TheVariants.{Refused, NoMemory}
 use Rattle.mc_base.specs.Shown.{IsFirst}
@@ -14,6 +14,7 @@ use Rattle.smi_mean.specs.Barriers.{IsTextBarrier}
 use Rattle.smi_mean.specs.Meaning.{atoms_with, meaning_of}
 use Rattle.smi_mean.specs.Needs.{needs}
 use Rattle.smi_mean.specs.Placements.{HasNoPlacement, IsMoleculeOf}
+use Rattle.smi_mean.specs.WrongCentres.{NotACentreAt}
 
 -- some atom of a molecule is wrong by a test; atoms count from 1
 abbrev pub AtomOf : Molecule → (Molecule → ℕ → Bool) → ℕ → Type 0
@@ -35,10 +36,11 @@ IsWrongIn atoms bonds LimitValence place = (k : ℕ) × (place ≡ k + 1) × (ov
 IsWrongIn atoms bonds HydrogenOnHydrogen place = AtomOf (meaning_of atoms bonds) hydrogen_on_hydrogen_at place
 IsWrongIn atoms bonds _ place = ⊥
 
--- A kind stands at a place of a text: the rules of its tokens, those of its atoms, and that its atoms have no placement of
--- double bonds.
+-- A kind stands at a place of a text: the rules of its tokens, those of its atoms, that its atoms have no placement of
+-- double bonds, and that a mark stands at an atom that may be no centre.
 abbrev pub StandsAt : List ℕ → Kind → ℕ → Type 0
 StandsAt text NoPlacement place = (place ≡ 0) × HasNoPlacement (atoms_in text) (text_bonds_in text)
+StandsAt text NotACentre place = NotACentreAt text place
 StandsAt text LimitValence place = IsWrongIn (atoms_in text) (bonds_in text) LimitValence place
 StandsAt text HydrogenOnHydrogen place = IsWrongIn (atoms_in text) (bonds_in text) HydrogenOnHydrogen place
 StandsAt text kind place = BreaksAt text kind place

@@ -1,5 +1,5 @@
 -- The one text in which a molecule is written (this project's own).
-use Rattle.std.specs.Prelude.{ℕ, zero, suc, Bool, true, false, not, ◌&&◌, List, [], ◌∷◌, ◌++◌, Option, Some, None, ◌==◌, nat_lt, slice_get, get_or, map, flat_map, codes, ℤ, pos, negsuc, nat_abs, if◌then◌else◌}
+use Rattle.std.specs.Prelude.{ℕ, zero, suc, Bool, true, false, not, ◌&&◌, List, [], ◌∷◌, ◌++◌, Option, Some, None, ◌==◌, nat_lt, slice_get, map, flat_map, codes, ℤ, pos, negsuc, nat_abs, is_none, if◌then◌else◌}
 use Rattle.std.specs.Fmt.{decimal}
 use Rattle.mc_base.specs.declared.ids.AtomId.{AtomId}
 use Rattle.mc_elements.specs.declared.element.Element.TheVariants.{C}
@@ -12,8 +12,9 @@ use Rattle.smi_lex.specs.declared.token.BondMark.{BondMark}
 use Rattle.smi_lex.specs.declared.token.BondMark.TheVariants.{Double, Triple, Quadruple}
 use Rattle.smi_lex.specs.declared.token.TokenKind.{TokenKind}
 use Rattle.smi_lex.specs.declared.token.TokenKind.TheVariants.{Bare, Bracket, Bond, Ring, Enter, Leave, Dot}
-use Rattle.smi_mean.specs.Order.{Graph, graph_of, order, atoms, parents}
+use Rattle.smi_mean.specs.Order.{Graph, graph_of, order, atoms, parents, at, has_ring}
 use Rattle.smi_mean.specs.RingNumbers.{Pair, has, closing, opening}
+use Rattle.smi_mean.specs.WrittenPlaces.{atom_mark}
 
 -- The token of an atom
 
@@ -23,19 +24,19 @@ is_bare atom sum =
     may_be_bare atom.element false
     && (atom.isotope == 0 && (nat_abs atom.charge == 0 && (atom.class == 0 && atom.hydrogens == implied (smiles_valences atom.element) sum)))
 
--- the token of an atom with this bond sum
-abbrev pub token_of : Atom → ℕ → TokenKind
-token_of atom sum =
-    if is_bare atom sum then Bare atom.element false
-    else Bracket atom.element false atom.isotope None atom.hydrogens atom.charge atom.class
+-- the token of an atom with this bond sum; where it has the mark of a centre it stands in brackets
+abbrev pub token_of : Atom → ℕ → Option Bool → TokenKind
+token_of atom sum mark =
+    if is_bare atom sum && is_none mark then Bare atom.element false
+    else Bracket atom.element false atom.isotope mark atom.hydrogens atom.charge atom.class
 
-abbrev pub token_in : Option Atom → ℕ → TokenKind
-token_in (Some atom) sum = token_of atom sum
-token_in None sum = Bare C false
+abbrev pub token_in : Option Atom → ℕ → Option Bool → TokenKind
+token_in (Some atom) sum mark = token_of atom sum mark
+token_in None sum mark = Bare C false
 
 -- the token of atom u of a molecule
 abbrev pub atom_token : Molecule → ℕ → TokenKind
-atom_token m u = token_in (slice_get m.atoms u) (bond_sum m.bonds u)
+atom_token m u = token_in (slice_get m.atoms u) (bond_sum m.bonds u) (atom_mark m u)
 
 -- The tokens
 
@@ -81,14 +82,6 @@ text_from symbols rings n k (t ∷ ts) [] = []
 text_from symbols rings n k (t ∷ ts) (p ∷ qs) =
     before_atom symbols k p qs ++ (t ∷ (ring_tokens symbols rings n k ++ text_from symbols rings n (suc k) ts qs))
 
--- the atom of a rank
-abbrev pub at : Graph → ℕ → ℕ
-at g k = get_or (atoms (order g)) k 0
-
--- whether the atoms of these ranks have a bond that leads to no parent
-abbrev pub has_ring : Graph → ℕ → ℕ → Bool
-has_ring g j l = g.joined (at g j) (at g l) && not (get_or (parents (order g)) l 0 == suc j)
-
 -- the symbol of the bond between the atoms of these ranks, by its order
 abbrev pub bond_symbol : Graph → ℕ → ℕ → Option BondMark
 bond_symbol g j l = symbol_of (g.order (at g j) (at g l))
@@ -105,6 +98,12 @@ written_tokens m = graph_tokens (graph_of m) (λ j l. bond_symbol (graph_of m) j
 
 abbrev pub isotope_text : ℕ → List ℕ
 isotope_text n = if n == 0 then [] else decimal n
+
+-- `@` and `@@`
+abbrev pub chiral_text : Option Bool → List ℕ
+chiral_text None = []
+chiral_text (Some true) = codes "@"
+chiral_text (Some false) = codes "@@"
 
 abbrev pub hydrogens_text : ℕ → List ℕ
 hydrogens_text n = if n == 0 then [] else if n == 1 then codes "H" else codes "H" ++ decimal n
@@ -127,7 +126,7 @@ ring_text n = if nat_lt n 10 then decimal n else codes "%" ++ decimal n
 abbrev pub spelling : TokenKind → List ℕ
 spelling (Bare element lower) = symbol element
 spelling (Bracket element lower isotope chiral hydrogens charge class) =
-    codes "[" ++ (isotope_text isotope ++ (symbol element ++ (hydrogens_text hydrogens ++ (charge_text charge ++ (class_text class ++ codes "]")))))
+    codes "[" ++ (isotope_text isotope ++ (symbol element ++ (chiral_text chiral ++ (hydrogens_text hydrogens ++ (charge_text charge ++ (class_text class ++ codes "]"))))))
 spelling (Bond mark) = mark_text mark
 spelling (Ring number) = ring_text number
 spelling Enter = codes "("

@@ -1,13 +1,14 @@
 -- The order in which the places of an atom are written, and the mark of a centre (this project's own). Atoms are numbered
 -- by their ranks in the text, from 0.
 use Rattle.std.specs.Option.{option_to_list}
-use Rattle.std.specs.Prelude.{ℕ, zero, suc, Bool, List, ◌++◌, Option, Some, None, ◌==◌, get_or, map}
+use Rattle.std.specs.Prelude.{ℕ, zero, suc, Bool, List, ◌++◌, Option, Some, None, ◌==◌, slice_get, get_or, map}
 use Rattle.mc_mol.specs.declared.parts.Slot.{Slot}
+use Rattle.mc_mol.specs.Molecule.{Molecule}
 use Rattle.mc_mol.specs.Permutations.{is_even_permutation}
+use Rattle.mc_rings.specs.Centres.{hydrogens_of}
 use Rattle.smi_lex.specs.declared.token.BondMark.{BondMark}
-use Rattle.smi_mean.specs.Order.{Graph, order, parents}
+use Rattle.smi_mean.specs.Order.{Graph, graph_of, order, parents, at, rank_of, has_ring}
 use Rattle.smi_mean.specs.RingNumbers.{passing, partners, closing}
-use Rattle.smi_mean.specs.Written.{at, has_ring}
 use Rattle.smi_mean.specs.CentrePlaces.{place_list}
 
 -- the rank of an atom whose number from 1 this is; none for 0
@@ -51,3 +52,13 @@ written_places g k hydrogens = place_list (atom_at g (parent_of g k)) (map (λ l
 abbrev pub parity_mark : Option (List Slot) → List Slot → Option Bool
 parity_mark None list = None
 parity_mark (Some places) list = Some (is_even_permutation places list)
+
+-- the list of an atom, where it is a centre
+abbrev pub list_of : Option (Option (List Slot)) → Option (List Slot)
+list_of None = None
+list_of (Some centre) = centre
+
+-- the mark of atom u of a molecule
+abbrev pub atom_mark : Molecule → ℕ → Option Bool
+atom_mark m u =
+    parity_mark (list_of (slice_get m.centres u)) (written_places (graph_of m) (rank_of (graph_of m) u) (hydrogens_of (slice_get m.atoms u)))

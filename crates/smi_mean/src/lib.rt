@@ -9,6 +9,7 @@ ghost use Rattle.smi_mean.specs.Placements.{IsPlacement};
 
 mod atoms;
 mod barrier;
+mod centres;
 mod faults;
 mod line;
 mod lying;
@@ -22,9 +23,10 @@ mod placement;
 mod read;
 
 pub use barrier::is_barrier_in;
+pub use centres::marks_fit;
 pub use lying::{lying_once, needing_atoms};
 pub use need::needs;
-pub use placed::{mean_of, molecule_with};
+pub use placed::{mean_of, molecule_with, unmarked_with};
 pub use placement::is_placement;
 pub use read::{NamedMolecule, SmilesRead, read_line_skeleton, read_named, read_smiles};
 

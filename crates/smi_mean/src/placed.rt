@@ -1,14 +1,15 @@
 //! The molecule of a skeleton under a placement of double bonds.
 
 ghost use Rattle.std.specs.Prelude.{◌≡◌, ℕ, ◌≤◌, ◌<◌, IfOk, IfErr, length, get_or, map};
-ghost use Rattle.mc_base.specs.declared.refusal.Stop.TheVariants.{NoMemory as Memory};
 ghost use Rattle.mc_mol.specs.Molecule.{bond_sum};
 ghost use Rattle.smi_graph.specs.Links.{bond_of};
 ghost use Rattle.smi_mean.specs.Meaning.{atoms_with as atoms_meant};
-ghost use Rattle.smi_mean.specs.Meant.{IsUnder, CantBePlaced};
+ghost use Rattle.smi_mean.specs.Meant.{IsUnmarkedUnder, AreRightMarks, CantBeMarked, CantBePlaced, molecule_under};
+ghost use Rattle.smi_mean.specs.MeantCentres.{MarkFits};
 ghost use Rattle.smi_mean.specs.Placements.{IsPlacement, raised_bond, raised, meaning_under};
 
 use crate::atoms::atoms_with;
+use crate::centres::{set_centres, with_marks};
 use crate::molecule::molecule;
 use crate::need::needs_in_order;
 use crate::place::{Placing, place};
@@ -39,7 +40,7 @@ fn raised(alloc: Global, placed: &[bool], bonds: &[Bond]) -> Result<Vec<Bond>, A
     Ok(found)
 }
 
-/// The molecule of these atoms and bonds of a skeleton, of which the marked bonds are double.
+/// The molecule of these atoms and bonds of a skeleton, of which the placed bonds are double, without stereo.
 fn molecule_under(
     alloc: Global,
     skeleton: &Skeleton,
@@ -58,8 +59,8 @@ fn molecule_under(
     molecule(alloc, atoms, bonds)
 }
 
-/// The molecule of a skeleton in which these bonds are double, whether they are a placement or not.
-pub fn molecule_with(alloc: Global, skeleton: &Skeleton, double: &[bool]) -> Result<Mol, NoMemory>
+/// The molecule of a skeleton in which these bonds are double, without stereo.
+pub fn unmarked_with(alloc: Global, skeleton: &Skeleton, double: &[bool]) -> Result<Mol, NoMemory>
     requires { length double.now ≡ length skeleton.now.bonds }
     ensures { IfOk result (λ mol. mol ≡ meaning_under skeleton.now.atoms (map bond_of skeleton.now.bonds) double.now) }
 {
@@ -69,14 +70,28 @@ pub fn molecule_with(alloc: Global, skeleton: &Skeleton, double: &[bool]) -> Res
     molecule_under(alloc, skeleton, atoms, &bonds, double)
 }
 
-/// The molecule of a skeleton under a placement, which says of each bond whether it is double.
+/// The molecule of a skeleton in which these bonds are double, whether they are a placement or not.
+pub fn molecule_with(alloc: Global, skeleton: &Skeleton, double: &[bool]) -> Result<Mol, NoMemory>
+    requires count { length double.now ≡ length skeleton.now.bonds }
+    requires marks { (k : ℕ) → k < length skeleton.now.atoms → MarkFits skeleton.now k }
+    ensures { IfOk result (λ mol. mol ≡ molecule_under skeleton.now double.now) }
+{
+    let _limits = skeleton.bonds();
+    let mut mol = unmarked_with(alloc, skeleton, double)?;
+    set_centres(&mut mol, skeleton);
+    Ok(mol)
+}
+
+/// The molecule of a skeleton under a placement, which says of each bond whether it is double; or the refusal of the first
+/// mark at an atom that may be no centre.
 pub fn mean_of(alloc: Global, skeleton: &Skeleton, double: &[bool]) -> Result<Mol, Stop>
     requires { IsPlacement skeleton.now.atoms skeleton.now.bonds double.now }
-    ensures ok { IfOk result (λ mol. mol ≡ meaning_under skeleton.now.atoms (map bond_of skeleton.now.bonds) double.now) }
-    ensures err { IfErr result (λ stop. stop ≡ Memory) }
+    ensures ok { IfOk result (λ mol. mol ≡ molecule_under skeleton.now double.now) }
+    ensures right { IfOk result (AreRightMarks skeleton.now) }
+    ensures err { IfErr result (CantBeMarked skeleton.now (meaning_under skeleton.now.atoms (map bond_of skeleton.now.bonds) double.now)) }
 {
-    let mol = molecule_with(alloc, skeleton, double)?;
-    Ok(mol)
+    let mol = unmarked_with(alloc, skeleton, double)?;
+    with_marks(alloc, skeleton, mol)
 }
 
 /// The refusal of a text whose atoms have no placement.
@@ -91,7 +106,8 @@ fn no_placement(barrier: AtomList, odd: u32) -> Stop
     })
 }
 
-/// The molecule of these atoms and bonds of a skeleton under some placement, or the refusal where there is none.
+/// The molecule of these atoms and bonds of a skeleton under some placement, without stereo, or the refusal where there is
+/// none.
 #[tactic(auto, using(crate::proofs::Placing::is_under, crate::proofs::Placing::cant_be_placed))]
 pub fn placed_molecule(
     alloc: Global,
@@ -106,7 +122,7 @@ pub fn placed_molecule(
     requires sums_count { length sums.now ≡ length skeleton.now.atoms }
     requires small { (k : ℕ) → get_or sums.now k 0 ≤ 65535 }
     requires sums { (k : ℕ) → k < length skeleton.now.atoms → get_or sums.now k 0 ≡ bond_sum bonds.now k }
-    ensures ok { IfOk result (IsUnder skeleton.now) }
+    ensures ok { IfOk result (IsUnmarkedUnder skeleton.now) }
     ensures err { IfErr result (CantBePlaced skeleton.now) }
 {
     let needs = needs_in_order(alloc, skeleton.atoms(), bonds, sums)?;

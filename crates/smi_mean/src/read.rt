@@ -1,6 +1,7 @@
-ghost use Rattle.std.specs.Prelude.{◌≡◌, ◌+◌, ◌≤◌, ◌<◌, ◌^◌, ◌-◌, IfOk, IfErr, length, drop, slice_range};
+ghost use Rattle.std.specs.Prelude.{◌≡◌, ℕ, ◌+◌, ◌≤◌, ◌<◌, ◌^◌, ◌-◌, IfOk, IfErr, length, drop, slice_range};
 ghost use Rattle.smi_graph.specs.Skeletons.{IsSkeleton, IsBroken};
-ghost use Rattle.smi_mean.specs.Meant.{IsMeantBy, IsFaulty};
+ghost use Rattle.smi_mean.specs.Meant.{IsMeantBy, IsUnmarkedBy, IsFaulty, IsRefusedBy};
+ghost use Rattle.smi_mean.specs.MeantCentres.{MarkFits};
 ghost use Rattle.smi_mean.specs.Lines.{text_of, name_of};
 ghost use Rattle.smi_mean.specs.Rules.{NoneStands, SmilesStands, IsRefused};
 ghost use Rattle.mc_base.specs.declared.refusal.Stop.TheVariants.{NoMemory as Memory};
@@ -8,6 +9,7 @@ ghost use Rattle.mc_rings.specs.Rings.{AreRingsOf};
 ghost use Rattle.smi_mean.specs.Sound.{IsSound};
 
 use crate::atoms::atoms_with;
+use crate::centres::with_marks;
 use crate::faults::atom_refusal;
 use crate::line::text_end;
 use crate::molecule::molecule;
@@ -51,11 +53,11 @@ fn name_span(line: &[u8], end: usize) -> Span
     Span { from, to }
 }
 
-/// The molecule that a text stands for which has this skeleton, or the first kind that stands in it. Where no atom needs a
-/// double bond, none is looked for.
+/// A molecule of a skeleton without stereo, or the first kind that stands at its atoms. Where no atom needs a double bond,
+/// none is looked for.
 #[tactic(auto, using(crate::proofs::Placing::meant_alone, crate::proofs::Placing::meant_placed, crate::proofs::Placing::faulty_placed))]
-fn mean(alloc: Global, skeleton: &Skeleton) -> Result<Mol, Stop>
-    ensures ok { IfOk result (IsMeantBy skeleton.now) }
+fn unmarked(alloc: Global, skeleton: &Skeleton) -> Result<Mol, Stop>
+    ensures ok { IfOk result (IsUnmarkedBy skeleton.now) }
     ensures err { IfErr result (IsFaulty skeleton.now) }
 {
     let bonds = bonds_with_orders(alloc, skeleton.bonds())?;
@@ -71,6 +73,22 @@ fn mean(alloc: Global, skeleton: &Skeleton) -> Result<Mol, Stop>
     Ok(mol)
 }
 
+/// The molecule that a text stands for which has this skeleton, or the first kind that stands in it.
+#[tactic(auto, using(crate::proofs::Placing::meant_marked, crate::proofs::Placing::refused_marked, crate::proofs::Placing::refused_early))]
+fn mean(alloc: Global, skeleton: &Skeleton) -> Result<Mol, Stop>
+    ensures ok { IfOk result (IsMeantBy skeleton.now) }
+    ensures err { IfErr result (IsRefusedBy skeleton.now) }
+{
+    let mol = match unmarked(alloc, skeleton) {
+        Ok(mol) => mol,
+        Err(stop) => return Err(stop),
+    };
+    match with_marks(alloc, skeleton, mol) {
+        Ok(mol) => Ok(mol),
+        Err(stop) => Err(stop),
+    }
+}
+
 /// A molecule that the text of a line stands for, or the first kind that stands in it.
 pub fn read_named(alloc: Global, line: &[u8]) -> Result<NamedMolecule, Stop>
     requires { length line.now < 2 ^ 32 - 1 }
@@ -78,6 +96,7 @@ pub fn read_named(alloc: Global, line: &[u8]) -> Result<NamedMolecule, Stop>
     ensures complete { NoneStands (text_of line.now) → IfErr result (λ stop. stop ≡ Memory) }
     ensures skeleton { IfOk result (λ read. IsSkeleton (text_of line.now) read.skeleton) }
     ensures sound { IfOk result (λ read. IsSound read.mol) }
+    ensures marks { IfOk result (λ read. (k : ℕ) → k < length read.skeleton.atoms → MarkFits read.skeleton k) }
     ensures name { IfOk result (λ read. slice_range line.now read.name.from read.name.to ≡ name_of line.now) }
     ensures within { IfOk result (λ read. (read.name.from ≤ read.name.to) × (read.name.to ≤ length line.now)) }
     ensures place { IfOk result (λ read. (read.name.to ≡ length line.now) × (read.name.from + length (name_of line.now) ≡ length line.now)) }
@@ -108,6 +127,7 @@ pub fn read_smiles(alloc: Global, line: &[u8]) -> Result<SmilesRead, Stop>
     ensures rings { IfOk result (λ read. AreRingsOf read.mol read.rings) }
     ensures skeleton { IfOk result (λ read. IsSkeleton (text_of line.now) read.skeleton) }
     ensures sound { IfOk result (λ read. IsSound read.mol) }
+    ensures marks { IfOk result (λ read. (k : ℕ) → k < length read.skeleton.atoms → MarkFits read.skeleton k) }
     ensures name { IfOk result (λ read. slice_range line.now read.name.from read.name.to ≡ name_of line.now) }
     ensures within { IfOk result (λ read. (read.name.from ≤ read.name.to) × (read.name.to ≤ length line.now)) }
     ensures place { IfOk result (λ read. (read.name.to ≡ length line.now) × (read.name.from + length (name_of line.now) ≡ length line.now)) }

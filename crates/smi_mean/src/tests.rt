@@ -1,5 +1,6 @@
 ghost use Rattle.std.specs.Prelude.{◌<◌, ◌-◌, ◌^◌, length};
 
+mod centres;
 mod plain;
 
 use crate::{is_barrier_in, is_placement, mean_of, needs, read_smiles};
@@ -365,15 +366,39 @@ fn all_short_texts(rt: HostRuntime) -> Result<(), Fail> {
     Ok(())
 }
 
-/// Texts of six tokens that begin with a ring number at a lower-case atom.
-#[test]
-fn short_rings(rt: HostRuntime) -> Result<(), Fail> {
-    for first in 0..3 {
-        for rest in 0..10000 {
-            let text = short_text(&rt, 6, first + 70 + 100 * rest)?;
-            assert!(&rt; text.len() < 100);
-            agrees(&rt, &text);
-        }
+/// All texts of six tokens of which the first is given. A text begins with an atom, so five tokens can be the first.
+fn agree_on_six(rt: &(impl Abort + AllocGlobal), first: u64) -> Result<(), Fail>
+    requires { first < 10 }
+{
+    for rest in 0..100000 {
+        let text = short_text(rt, 6, first + 10 * rest)?;
+        assert!(rt; text.len() < 100);
+        agrees(rt, &text);
     }
     Ok(())
+}
+
+#[test]
+fn texts_of_six_from_carbon(rt: HostRuntime) -> Result<(), Fail> {
+    agree_on_six(&rt, 0)
+}
+
+#[test]
+fn texts_of_six_from_nitrogen(rt: HostRuntime) -> Result<(), Fail> {
+    agree_on_six(&rt, 1)
+}
+
+#[test]
+fn texts_of_six_from_oxygen(rt: HostRuntime) -> Result<(), Fail> {
+    agree_on_six(&rt, 2)
+}
+
+#[test]
+fn texts_of_six_from_upper_case(rt: HostRuntime) -> Result<(), Fail> {
+    agree_on_six(&rt, 3)
+}
+
+#[test]
+fn texts_of_six_from_bracket(rt: HostRuntime) -> Result<(), Fail> {
+    agree_on_six(&rt, 4)
 }

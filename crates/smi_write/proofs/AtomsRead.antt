@@ -17,7 +17,7 @@ use Rattle.smi_graph.specs.declared.role.Role.TheVariants as doing
 use Rattle.smi_graph.specs.declared.skel_atom.SkelAtom.{SkelAtom}
 use Rattle.smi_graph.specs.Roles.{role_of, bare_atom, bracket_atom, atom_of, atoms_of}
 use Rattle.smi_mean.specs.Meaning.{meant_atom, atoms_with}
-use Rattle.std.specs.Prelude.{Option}
+use Rattle.std.specs.Prelude.{Option, is_none, ◌&&◌}
 use Rattle.smi_lex.specs.declared.token.BondMark.{BondMark}
 use Rattle.smi_mean.specs.RingNumbers.{opening}
 use Rattle.smi_mean.specs.Written.{before_atom, is_bare, ring_tokens, text_from, token_of}
@@ -182,8 +182,8 @@ bare_means atom sum bare =
     ∙ ap (λ (n : ℕ). made atom.element atom.isotope atom.charge n 0) (sym bare.hydrogens)
     ∙ ap (λ (n : ℕ). made atom.element atom.isotope atom.charge atom.hydrogens n) (sym bare.class)
 
-pub token_means : (atom : Atom) (sum : ℕ) → meant_by (token_of atom sum) sum ≡ atom
-token_means atom sum = elim (cases_Bool (is_bare atom sum)) [
-  | inl bare ↦ rw bare (bare_means atom sum (bare_is atom sum bare))
+pub token_means : (atom : Atom) (sum : ℕ) (mark : Option Bool) → meant_by (token_of atom sum mark) sum ≡ atom
+token_means atom sum mark = elim (cases_Bool (is_bare atom sum && is_none mark)) [
+  | inl bare ↦ rw bare (bare_means atom sum (bare_is atom sum (and_parts (is_bare atom sum) (is_none mark) bare).0))
   | inr bracket ↦ rw bracket refl
 ]

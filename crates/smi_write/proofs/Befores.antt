@@ -6,9 +6,9 @@ use Rattle.std.proofs.lemmas.Bool.{cases_lt}
 use Rattle.std.proofs.lemmas.List.{take_all, get_or_default, get_or_push, get_or_append_left, length_push}
 use Rattle.mc_mol.specs.Molecule.{Molecule}
 use Rattle.smi_lex.specs.declared.token.TokenKind.TheVariants.{Enter, Leave}
-use Rattle.smi_mean.specs.Order.{Graph, graph_of, Step, order, order_between, rank, parent_rank, parents, atoms}
+use Rattle.smi_mean.specs.Order.{Graph, graph_of, Step, order, order_between, rank, parent_rank, parents, atoms, at}
 use Rattle.smi_mean.specs.RingNumbers.{has}
-use Rattle.smi_mean.specs.Written.{at, bond_symbol, before_atom, if_not, mark_tokens, symbol_of}
+use Rattle.smi_mean.specs.Written.{bond_symbol, before_atom, if_not, mark_tokens, symbol_of}
 use Rattle.smi_write.specs.declared.order.WrittenAtoms.{WrittenAtoms}
 use Rattle.smi_write.specs.WrittenOrder.{IsWrittenOrder, LastChildren, order_behind, parent_orders}
 use Rattle.smi_write.proofs.Walk.{Grown, grown, nested, order_nested, rank_le, length_parents}

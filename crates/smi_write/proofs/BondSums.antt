@@ -6,7 +6,7 @@ use Rattle.std.proofs.Common.{length, ◌≡◌, ℕ, ◌+◌, ◌<◌, List, []
 use Rattle.std.specs.Prelude.{◌==◌, ◌||◌, nat_lt, if◌then◌else◌}
 use Rattle.std.proofs.lemmas.Bool.{false≢true, or_parts, false_from_ne_true}
 use Rattle.std.proofs.lemmas.List.Sums.{sum_by-cons}
-use Rattle.smi_mean.specs.Order.{Graph, order_between, graph_of}
+use Rattle.smi_mean.specs.Order.{Graph, order_between, graph_of, at, rank_of}
 use Rattle.mc_mol.specs.declared.parts.Bond.{Bond}
 use Rattle.smi_graph.specs.Links.{bond_of, bonds_of, or_else, order_of}
 use Rattle.smi_graph.specs.Bonds.{text_bonds}
@@ -19,12 +19,12 @@ use Rattle.mc_mol.specs.Molecule.{Molecule, joins, are_joined, touches, bond_sum
 use Rattle.mc_mol.specs.WellFormed.{IsMolecule}
 use Rattle.mc_mol.proofs.Twins.{joins_first}
 use Rattle.mc_mol.proofs.Apart.{joins_turned, turned_joins}
-use Rattle.smi_mean.specs.Written.{at, bond_symbol}
+use Rattle.smi_mean.specs.Written.{bond_symbol}
 use Rattle.smi_write.specs.Structure.{SayOrders}
 use Rattle.smi_write.proofs.Symbols.{HasSymbols}
 use Rattle.smi_write.proofs.Simple.{Simple, simple_of, said_between}
 use Rattle.smi_write.proofs.Sums.{bonds_sum}
-use Rattle.smi_write.proofs.Ranked.{Inverse, inverse, equal_tests, turn, ranked, rank_of, read_sum}
+use Rattle.smi_write.proofs.Ranked.{Inverse, inverse, equal_tests, turn, ranked, read_sum}
 use Rattle.smi_write.proofs.Whole.{graph_roles, is_read}
 
 -- each bond of these has in the whole list its order, from both ends

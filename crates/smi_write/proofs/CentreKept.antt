@@ -23,9 +23,9 @@ use Rattle.smi_graph.specs.Roles.{role_of}
 use Rattle.smi_graph.specs.Bonds.{text_bonds}
 use Rattle.smi_graph.specs.TextOrder.{predecessor_of}
 use Rattle.smi_graph.proofs.NeighbourCount.{ends_weight, neighbours_law}
-use Rattle.smi_mean.specs.Order.{Graph, graph_of, order, rank}
+use Rattle.smi_mean.specs.Order.{Graph, graph_of, order, rank, at, rank_of}
 use Rattle.smi_mean.specs.RingNumbers.{onto_all}
-use Rattle.smi_mean.specs.Written.{at, graph_tokens, written_order}
+use Rattle.smi_mean.specs.Written.{graph_tokens, written_order}
 use Rattle.smi_mean.specs.CentrePlaces.{atom_slot, rest_if, has_rest, places, centre_of}
 use Rattle.smi_mean.specs.WrittenPlaces.{others, parent_of, atom_at, written_places, parity_mark}
 use Rattle.smi_write.proofs.Hits.{bit, occurs, occurs_append}
@@ -33,7 +33,7 @@ use Rattle.smi_write.proofs.BondCounts.{text_count}
 use Rattle.smi_write.proofs.SameBonds.{bit_one}
 use Rattle.smi_write.proofs.Simple.{Simple, simple_of}
 use Rattle.smi_write.proofs.Whole.{graph_roles, is_read, bit_le}
-use Rattle.smi_write.proofs.Ranked.{inverse, rank_of}
+use Rattle.smi_write.proofs.Ranked.{inverse}
 use Rattle.smi_write.proofs.Partners.{rank_of_at}
 use Rattle.smi_write.proofs.PlacesRead.{parent_read, others_read, centre_read, back}
 use Rattle.smi_write.proofs.Exchange.{LastDiffer, place_same}

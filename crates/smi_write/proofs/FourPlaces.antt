@@ -1,10 +1,13 @@
 -- The written places of an atom are four where its neighbours and hydrogens are those of a centre.
-use Rattle.std.proofs.Common.{◌≡◌, ◌<◌, ◌+◌, ◌-◌, ℕ, zero, suc, get_or, List, [], ◌∷◌, ◌++◌, length, map, reverse, Option, Some, None, refl, sym, ap, subst, ◌∙◌, arith}
-use Rattle.std.specs.Prelude.{nat_lt, ◌==◌, ◌||◌, if◌then◌else◌}
+use Rattle.std.proofs.Common.{◌≡◌, ◌<◌, ◌+◌, ◌-◌, ℕ, zero, suc, get_or, List, [], ◌∷◌, ◌++◌, length, map, reverse, Bool, Option, Some, None, refl, sym, ap, subst, ◌∙◌, arith}
+use Rattle.std.specs.Prelude.{nat_lt, ◌==◌, ◌||◌, if◌then◌else◌, slice_get}
 use Rattle.std.specs.Option.{option_to_list}
 use Rattle.std.proofs.lemmas.List.{length-append, length-map}
+use Rattle.mc_base.specs.declared.ids.AtomId.{AtomId}
+use Rattle.mc_mol.specs.declared.parts.Atom.{Atom as MeantAtom}
 use Rattle.mc_mol.specs.declared.parts.Bond.{Bond}
 use Rattle.mc_mol.specs.Molecule.{Molecule, touches}
+use Rattle.mc_mol.specs.Permutations.{is_even_permutation}
 use Rattle.mc_mol.specs.HalfEdges.{degree}
 use Rattle.mc_mol.specs.WellFormed.{IsMolecule}
 use Rattle.smi_lex.specs.declared.token.BondMark.{BondMark}
@@ -15,20 +18,25 @@ use Rattle.smi_graph.specs.Links.{bonds_of}
 use Rattle.smi_graph.specs.RingRules.{is_pair_again}
 use Rattle.smi_graph.specs.TextOrder.{neighbours, followers, ring_partners}
 use Rattle.smi_graph.proofs.SoundBonds.{NeverPairs, bonds_sound}
-use Rattle.smi_mean.specs.Order.{Graph, graph_of}
+use Rattle.smi_mean.specs.Order.{Graph, graph_of, at, before_one, rank_of}
 use Rattle.smi_mean.specs.RingNumbers.{onto_all}
-use Rattle.smi_mean.specs.Written.{at}
 use Rattle.mc_mol.specs.declared.parts.Slot.{Slot}
 use Rattle.mc_mol.proofs.Halves.{same_test}
-use Rattle.smi_mean.specs.CentrePlaces.{atom_slot}
-use Rattle.smi_mean.specs.WrittenPlaces.{above, atom_at, others, parent_of, unmarked, written_neighbours, written_places}
-use Rattle.smi_mean.proofs.PlaceLists.{Fits, length_list, neighbour_count}
+use Rattle.mc_rings.specs.Centres.{hydrogens_of}
+use Rattle.smi_mean.specs.CentrePlaces.{atom_slot, Fits}
+use Rattle.smi_mean.specs.Sound.{IsSound}
+use Rattle.smi_write.specs.CentreMarks.{CentresFit}
+use Rattle.smi_mean.specs.WrittenPlaces.{above, atom_at, atom_mark, list_of, parity_mark, others, parent_of, unmarked, written_neighbours, written_places}
+use Rattle.smi_graph.proofs.JoinedAtoms.{neighbour_count}
+use Rattle.smi_mean.proofs.CentreLists.{fits_degree}
+use Rattle.smi_mean.proofs.PlaceLists.{length_list}
+use Rattle.smi_write.proofs.Partners.{rank_of_at}
 use Rattle.smi_write.proofs.Along.{Along}
 use Rattle.smi_write.proofs.BondSums.{weight, turned_weight}
 use Rattle.smi_write.proofs.CentreKept.{neighbour_at}
 use Rattle.smi_write.proofs.Hits.{bit, occurs, occurs_append}
 use Rattle.smi_write.proofs.PlacesRead.{back, others_read, parent_read}
-use Rattle.smi_write.proofs.Ranked.{Inverse, inverse, equal_tests, ranked, rank_of, read_sum}
+use Rattle.smi_write.proofs.Ranked.{Inverse, inverse, equal_tests, ranked, read_sum}
 use Rattle.smi_write.proofs.Simple.{Simple, simple_of}
 use Rattle.smi_write.proofs.Sums.{bonds_sum}
 use Rattle.smi_write.proofs.Whole.{graph_roles, is_read}
@@ -107,6 +115,32 @@ four_places m k hydrogens is less fit =
     parents_at : (o : Option ℕ) → length (option_to_list o) ≡ length (option_to_list (atom_at (graph_of m) o))
     parents_at None = refl
     parents_at (Some p) = refl
+
+-- each centre of a molecule that is written has the number of neighbours and hydrogens of one
+pub centres_fit : (m : Molecule) → IsSound m → CentresFit m
+centres_fit m sound u places here = let may = sound.centres u places here in fits_degree m may.sizes u may.may
+
+-- the mark of the atom of a rank
+pub mark_at : (m : Molecule) (k : ℕ) → k < length m.atoms
+    → atom_mark m (at (graph_of m) k) ≡ parity_mark (list_of (slice_get m.centres (at (graph_of m) k))) (written_places (graph_of m) k (hydrogens_of (slice_get m.atoms (at (graph_of m) k))))
+mark_at m k less =
+    ap (λ (n : ℕ). parity_mark (list_of (slice_get m.centres (at (graph_of m) k))) (written_places (graph_of m) n (hydrogens_of (slice_get m.atoms (at (graph_of m) k)))))
+    (ap before_one (rank_of_at m k less))
+
+-- the mark that is found at a centre
+pub mark_found : (m : Molecule) (k : ℕ) (u : AtomId) (atom : MeantAtom) (list places : List Slot) (plain : Bool) → IsMolecule m → k < length m.atoms → u.0 ≡ at (graph_of m) k
+    → slice_get m.centres u.0 ≡ Some (Some list) → slice_get m.atoms u.0 ≡ Some atom → places ≡ written_places (graph_of m) k atom.hydrogens
+    → (length places ≡ 4 → plain ≡ is_even_permutation list places) → CentresFit m → Some plain ≡ atom_mark m (at (graph_of m) k)
+mark_found m k u atom list places plain is less is_u centre found are even fit =
+    let g : Graph = graph_of m in
+    let here : slice_get m.centres (at g k) ≡ Some (Some list) = ap (slice_get m.centres) (sym is_u) ∙ centre in
+    let there : slice_get m.atoms (at g k) ≡ Some atom = ap (slice_get m.atoms) (sym is_u) ∙ found in
+    let fits_here : Fits (degree m.bonds (at g k)) atom.hydrogens = subst (λ (h : ℕ). Fits (degree m.bonds (at g k)) h) (ap hydrogens_of there) (fit (at g k) list here) in
+    let four : length places ≡ 4 = ap (λ (xs : List Slot). length xs) are ∙ four_places m k atom.hydrogens is less fits_here in
+    ap (λ (t : Bool). Some t) (even four ∙ ap (is_even_permutation list) are)
+    ∙ sym (mark_at m k less
+    ∙ ap (λ (o : Option (Option (List Slot))). parity_mark (list_of o) (written_places g k (hydrogens_of (slice_get m.atoms (at g k))))) here
+    ∙ ap (λ (o : Option MeantAtom). parity_mark (Some list) (written_places g k (hydrogens_of o))) there)
 
 -- What the writer finds of them
 

@@ -31,6 +31,7 @@ mod EachToken
 mod KindsRead
 mod TokensWritten
 mod AtomsRead
+mod MarksRead
 mod Structured
 mod NoneStands
 mod RoundTrip
@@ -56,8 +57,12 @@ mod PartnersRead
 mod SameNumbers
 mod PlacesRead
 mod PlaceRows
+mod MarkRows
 mod Exchange
 mod CentreKept
 mod ClosingOpeners
 mod OthersFound
+mod ChildRange
 mod FourPlaces
+mod OrderCounts
+mod CentreStays

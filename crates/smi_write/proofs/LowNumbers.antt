@@ -7,8 +7,8 @@ use Rattle.smi_lex.specs.declared.token.TokenKind.{TokenKind}
 use Rattle.smi_lex.specs.declared.token.TokenKind.TheVariants.{Bare, Bracket, Bond, Ring, Enter, Leave, Dot}
 use Rattle.smi_graph.specs.declared.role.Role.TheVariants as doing
 use Rattle.smi_graph.specs.Roles.{role_of}
-use Rattle.smi_mean.specs.Order.{Graph, order, atoms, parents}
-use Rattle.smi_mean.specs.Written.{graph_tokens, has_ring}
+use Rattle.smi_mean.specs.Order.{Graph, order, atoms, parents, has_ring}
+use Rattle.smi_mean.specs.Written.{graph_tokens}
 use Rattle.smi_write.proofs.EachToken.{AllOpened, Each, HoldsBetween, any_symbols, each_written}
 use Rattle.smi_write.proofs.TokensWritten.{RingsFit}
 

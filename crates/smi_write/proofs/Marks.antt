@@ -13,8 +13,7 @@ use Rattle.mc_mol.specs.HalfEdges.{half_edges}
 use Rattle.mc_mol.proofs.Lists.{length-slice_set}
 use Rattle.mc_mol.proofs.Halves.{are_joined-half_edges}
 use Rattle.mc_mol.proofs.Apart.{are_joined_turned}
-use Rattle.smi_mean.specs.Order.{graph_of, Step, steps, unwritten_neighbour, order, rank, parents}
-use Rattle.smi_mean.specs.Written.{at, has_ring}
+use Rattle.smi_mean.specs.Order.{graph_of, Step, steps, unwritten_neighbour, order, rank, parents, at, has_ring}
 use Rattle.smi_write.specs.Seen.{leads_back, mark_all, mark_one}
 use Rattle.smi_write.specs.Progress.{HoldsSteps, HoldsMarks}
 use Rattle.smi_write.proofs.Walk.{rank_le, length_parents}

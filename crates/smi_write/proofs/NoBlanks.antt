@@ -1,5 +1,5 @@
 -- No blank and no line end stands in a written text.
-use Rattle.std.proofs.Common.{arith, ◌≡◌, ℕ, zero, suc, ◌≤◌, List, [], ◌∷◌, ◌++◌, Bool, true, false, refl}
+use Rattle.std.proofs.Common.{arith, ◌≡◌, ℕ, zero, suc, ◌≤◌, List, [], ◌∷◌, ◌++◌, Bool, true, false, refl, Option, Some, None}
 use Rattle.std.specs.List.{list_all}
 use Rattle.std.specs.Fmt.{decimal}
 use Rattle.std.specs.Char.{is_ascii_lowercase, is_ascii_uppercase}
@@ -20,7 +20,7 @@ use Rattle.smi_lex.specs.Grammar.{mark_text}
 use Rattle.mc_mol.specs.Molecule.{Molecule}
 use Rattle.mc_mol.specs.WellFormed.{IsMolecule}
 use Rattle.smi_mean.specs.Sound.{IsSound}
-use Rattle.smi_mean.specs.Written.{isotope_text, hydrogens_text, amount_text, charge_text, class_text, spelling, written_text, written_tokens}
+use Rattle.smi_mean.specs.Written.{isotope_text, chiral_text, hydrogens_text, amount_text, charge_text, class_text, spelling, written_text, written_tokens}
 use Rattle.smi_write.proofs.TokenSpelled.{IsWritten}
 use Rattle.smi_write.proofs.KindsRead.{AreWritten}
 use Rattle.smi_write.proofs.TokensWritten.{tokens_written}
@@ -70,6 +70,11 @@ charge_plain (pos zero) few = refl
 charge_plain (pos (suc n)) few = amount_plain (codes "+") (suc n) (omega arith) refl
 charge_plain (negsuc n) few = amount_plain (codes "-") (suc n) (omega arith) refl
 
+chiral_plain : (chiral : Option Bool) → is_plain (chiral_text chiral) ≡ true
+chiral_plain None = refl
+chiral_plain (Some true) = refl
+chiral_plain (Some false) = refl
+
 hydrogens_plain : (n : ℕ) → n ≤ 9 → is_plain (hydrogens_text n) ≡ true
 hydrogens_plain n few = either (n == 0) [] _ refl (either (n == 1) (codes "H") (codes "H" ++ decimal n) refl (join (codes "H") (decimal n) refl (decimal_plain n (omega arith))))
 
@@ -87,16 +92,18 @@ one_plain (Bare element l) is = symbol_plain element
 one_plain (Bracket element l isotope chiral hydrogens charge class) is =
     let behind_charge : List ℕ = class_text class ++ codes "]" in
     let behind_hydrogens : List ℕ = charge_text charge ++ behind_charge in
-    let behind_symbol : List ℕ = hydrogens_text hydrogens ++ behind_hydrogens in
+    let behind_chiral : List ℕ = hydrogens_text hydrogens ++ behind_hydrogens in
+    let behind_symbol : List ℕ = chiral_text chiral ++ behind_chiral in
     let behind_isotope : List ℕ = symbol element ++ behind_symbol in
     let class_plain = either (class == 0) [] (codes ":" ++ decimal class) refl (join (codes ":") (decimal class) refl (decimal_plain class is.low_class)) in
     let isotope_plain = either (isotope == 0) [] (decimal isotope) refl (decimal_plain isotope is.low_isotope) in
     join (codes "[") (isotope_text isotope ++ behind_isotope) refl
     (join (isotope_text isotope) behind_isotope isotope_plain
     (join (symbol element) behind_symbol (symbol_plain element)
+    (join (chiral_text chiral) behind_chiral (chiral_plain chiral)
     (join (hydrogens_text hydrogens) behind_hydrogens (hydrogens_plain hydrogens is.few_hydrogens)
     (join (charge_text charge) behind_charge (charge_plain charge is.low_charge)
-    (join (class_text class) (codes "]") class_plain refl)))))
+    (join (class_text class) (codes "]") class_plain refl))))))
 one_plain (Bond mark) is = mark_plain mark
 one_plain (Ring n) is = either (nat_lt n 10) (decimal n) (codes "%" ++ decimal n) (decimal_plain n (omega arith)) (join (codes "%") (decimal n) refl (decimal_plain n (omega arith)))
 one_plain Enter is = refl

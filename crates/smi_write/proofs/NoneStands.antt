@@ -1,18 +1,22 @@
 -- No kind stands in a text that is read as a molecule within the limits.
 use Rattle.std.proofs.Common.{arith, ◌≡◌, ◌<◌, ◌≤◌, ◌+◌, ℕ, zero, suc, Bool, true, false, List, [], ◌∷◌, length, Option, Some, None, refl, sym, ap, ◌∙◌, inl, inr}
-use Rattle.std.specs.Prelude.{slice_get, nat_abs}
-use Rattle.std.proofs.lemmas.Bool.{cases_lt, both_ways, le-ltb}
-use Rattle.std.proofs.lemmas.Option.{slice_get_past, slice_get_within}
+use Rattle.std.specs.Prelude.{slice_get, nat_abs, is_some, not, option_map, reverse, ◌&&◌, ◌||◌}
+use Rattle.std.proofs.lemmas.Bool.{and_parts, cases_lt, both_ways, false≢true, le-ltb, not-true}
+use Rattle.std.proofs.lemmas.Option.{slice_get_past, slice_get_within, slice_get-map}
 use Rattle.mc_base.specs.declared.kind.Kind.{Kind}
-use Rattle.mc_base.specs.declared.kind.Kind.TheVariants.{NotBuilt, BadToken, Wildcard, OtherChirality, BadOrder, ParenOpen, RingOpen, RingClash, RingPair, AromaticBond, LimitAtoms, LimitBonds, LimitRings, LimitIsotope, LimitClass, LimitCharge, LimitValence, HydrogenOnHydrogen, NoPlacement}
+use Rattle.mc_base.specs.declared.kind.Kind.TheVariants.{NotBuilt, BadToken, Wildcard, OtherChirality, BadOrder, ParenOpen, RingOpen, RingClash, RingPair, AromaticBond, LimitAtoms, LimitBonds, LimitRings, LimitIsotope, LimitClass, LimitCharge, LimitValence, HydrogenOnHydrogen, NoPlacement, NotACentre}
 use Rattle.mc_mol.specs.declared.parts.Atom.{Atom}
 use Rattle.mc_mol.specs.declared.parts.Bond as bond
+use Rattle.mc_mol.specs.declared.parts.Slot.{Slot}
 use Rattle.mc_mol.specs.Molecule.{Molecule, bond_sum}
 use Rattle.mc_mol.specs.WellFormed.{IsMolecule}
 use Rattle.mc_mol.specs.Limits.{overvalent_at, hydrogen_on_hydrogen_at, is_hydrogen_with_more, is_over, IsAtomWithinLimits}
 use Rattle.mc_mol.specs.declared.limits.TheConstants.{ATOM_LIMIT, BOND_LIMIT, RING_LIMIT, ISOTOPE_LIMIT, CLASS_LIMIT, CHARGE_LIMIT}
+use Rattle.mc_rings.specs.Centres.{hydrogens_of, may_be_centre}
 use Rattle.smi_lex.specs.Tokens.{unread}
 use Rattle.smi_graph.specs.declared.skel_atom.SkelAtom.{SkelAtom}
+use Rattle.smi_graph.specs.declared.role.Role.{Role}
+use Rattle.smi_graph.specs.Links.{bonds_of}
 use Rattle.smi_graph.specs.Order.{unclosed_at}
 use Rattle.smi_graph.specs.RingRules.{clash_at, pair_again_at}
 use Rattle.smi_graph.specs.Candidates.{is_lower}
@@ -23,10 +27,18 @@ use Rattle.smi_mean.proofs.Needing.{overvalent_same, upper_needs_none}
 use Rattle.smi_mean.proofs.Placing.{none_placed, nothing_placed}
 use Rattle.smi_mean.specs.Needs.{needs}
 use Rattle.smi_mean.specs.Meaning.{atoms_with, meaning, meant_atom}
-use Rattle.smi_mean.specs.Order.{graph_of}
+use Rattle.smi_mean.specs.MeantCentres.{is_wrong_centre}
+use Rattle.smi_mean.specs.Order.{Graph, graph_of, at, rank_of}
 use Rattle.smi_mean.specs.Rules.{StandsAt}
 use Rattle.smi_mean.specs.Sound.{IsSound}
-use Rattle.smi_mean.specs.Written.{at}
+use Rattle.smi_mean.specs.Written.{atom_token, bond_symbol}
+use Rattle.smi_mean.specs.WrittenPlaces.{atom_mark, list_of, parity_mark, written_places}
+use Rattle.smi_mean.specs.WrongCentres.{NotACentreAt}
+use Rattle.smi_write.proofs.CentreStays.{may_stay, read_bonds}
+use Rattle.smi_write.proofs.MarksRead.{Says, atom_says}
+use Rattle.smi_write.proofs.PlacesRead.{back}
+use Rattle.smi_write.proofs.StructureLaw.{tokens_are}
+use Rattle.smi_write.proofs.TokensWritten.{role_of_atom}
 use Rattle.smi_write.proofs.Structured.{IsRead, length_with}
 
 -- an atom of the skeleton, and the one that it means
@@ -96,6 +108,44 @@ nowhere p n i past fails holds = elim (cases_lt i n) [
   | inr more ↦ both_ways (p i) (past i (omega arith)) holds
 ]
 
+-- A mark stands only at an atom that may be a centre
+
+abbrev said_by : Option Says → Says
+said_by None = (true, None)
+said_by (Some s) = s
+
+marked_centre : (c : Option (Option (List Slot))) (list : List Slot) → is_some (parity_mark (list_of c) list) ≡ true → (places : List Slot) × (c ≡ Some (Some places))
+marked_centre None list h = absurd (false≢true h)
+marked_centre (Some None) list h = absurd (false≢true h)
+marked_centre (Some (Some places)) list h = (places, refl)
+
+-- an atom in upper case that has a mark is wrong only where it may be no centre
+wrong_is : (atom : SkelAtom) (may : Bool) → atom.lower ≡ false → is_wrong_centre (Some atom) may ≡ true → (is_some atom.chiral ≡ true) × (may ≡ false)
+wrong_is atom may upper wrong =
+    let both = and_parts (is_some atom.chiral) (atom.lower || not may) wrong in
+    (both.0, not-true may (ap (λ (t : Bool). t || not may) (sym upper) ∙ both.1))
+
+no_wrong : (m : Molecule) (text : List ℕ) → IsMolecule m → IsSound m → IsRead m text → (place : ℕ) → NotACentreAt text place → ⊥
+no_wrong m text is sound read place h = by_atom (slice_get (atoms_in text) h.k) refl h.wrong
+  where
+    by_atom : (o : Option SkelAtom) → slice_get (atoms_in text) h.k ≡ o → is_wrong_centre o (may_be_centre (meaning text) h.sizes h.k) ≡ true → ⊥
+    by_atom None found wrong = false≢true wrong
+    by_atom (Some atom) found wrong =
+        let g : Graph = graph_of m in
+        let inside = slice_get_within (atoms_in text) h.k atom found in
+        let count = read.count in
+        let less : h.k < length m.atoms = omega arith in
+        let u : ℕ = at g h.k in
+        let says : atom_says atom ≡ (false, atom_mark m u) =
+        ap said_by (sym (ap (option_map atom_says) found) ∙ sym (slice_get-map atom_says (atoms_in text) h.k) ∙ read.said h.k less) in
+        let bad = wrong_is atom (may_be_centre (meaning text) h.sizes h.k) (ap (λ (s : Says). s.0) says) wrong in
+        let (places, is_centre) = marked_centre (slice_get m.centres u) (written_places g (rank_of g u) (hydrogens_of (slice_get m.atoms u)))
+        (ap (λ (s : Says). is_some s.1) (sym says) ∙ bad.0) in
+        let may = sound.centres u places is_centre in
+        let bonds : (meaning text).bonds ≡ read_bonds m =
+        ap (λ (ks : List Role). bonds_of (reverse ks)) (read.roles ∙ tokens_are g (λ j l. bond_symbol g j l) (atom_token m) (role_of_atom m)) ∙ ap bonds_of (back g (λ j l. bond_symbol g j l)) in
+        both_ways _ bad.1 (may_stay m (meaning text) may.sizes h.sizes h.k is less bonds (ap hydrogens_of (read.same_atoms h.k less)) may.are h.are may.may)
+
 pub none_stands : (m : Molecule) (text : List ℕ) → IsMolecule m → IsSound m → IsRead m text → (kind : Kind) (place : ℕ) → StandsAt text kind place → ⊥
 none_stands m text is sound read NotBuilt place h = both_ways _ h.2 read.built
 none_stands m text is sound read BadToken place h = no_rest m text read h.0
@@ -120,4 +170,5 @@ none_stands m text is sound read LimitValence place (k, there, bad) = both_ways 
 none_stands m text is sound read HydrogenOnHydrogen place (k, there, bad) = both_ways _ (no_hydrogen m text sound read k) bad
 none_stands m text is sound read NoPlacement place h =
     h.1 (none_placed (text_bonds_in text)) (nothing_placed (atoms_in text) (text_bonds_in text) (no_need text (upper_atoms text read.plain)))
+none_stands m text is sound read NotACentre place h = no_wrong m text is sound read place h
 none_stands m text is sound read _ place h = h

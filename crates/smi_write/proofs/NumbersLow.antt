@@ -9,9 +9,9 @@ use Rattle.smi_lex.specs.declared.token.TokenKind.{TokenKind}
 use Rattle.smi_lex.specs.declared.token.TokenKind.TheVariants.{Bare, Bracket, Bond, Ring, Enter, Leave, Dot}
 use Rattle.smi_graph.specs.declared.role.Role.TheVariants as doing
 use Rattle.smi_graph.specs.Roles.{role_of}
-use Rattle.smi_mean.specs.Order.{Graph, graph_of, order, parents, atoms}
+use Rattle.smi_mean.specs.Order.{Graph, graph_of, order, parents, atoms, has_ring}
 use Rattle.smi_mean.specs.RingNumbers.{Pair, has, new_pair, opened, ending, kept, insert, sorted, partners, onto_all, active, closing, opening}
-use Rattle.smi_mean.specs.Written.{mark_tokens, closed_tokens, opened_tokens, ring_tokens, if_not, before_atom, text_from, has_ring, graph_tokens}
+use Rattle.smi_mean.specs.Written.{mark_tokens, closed_tokens, opened_tokens, ring_tokens, if_not, before_atom, text_from, graph_tokens}
 use Rattle.smi_write.proofs.Pairs.{free_is}
 use Rattle.smi_write.proofs.RingCount.{opens, opens_low, pairs, rings_few}
 

@@ -2,9 +2,9 @@
 use Rattle.std.proofs.Common.{◌≡◌, ℕ, suc, List, [], ◌++◌, length, map, get_or, ap, sym, ◌∙◌}
 use Rattle.std.specs.Prelude.{◌==◌}
 use Rattle.mc_mol.specs.Molecule.{Molecule}
-use Rattle.smi_mean.specs.Order.{graph_of, order, parents}
+use Rattle.smi_mean.specs.Order.{graph_of, order, parents, has_ring}
 use Rattle.smi_mean.specs.RingNumbers.{ending, numbers, passing, partners, sorted}
-use Rattle.smi_mean.specs.Written.{bond_symbol, has_ring}
+use Rattle.smi_mean.specs.Written.{bond_symbol}
 use Rattle.smi_write.specs.OpenRings.{opener_of}
 use Rattle.smi_write.specs.Texts.{open_pairs}
 use Rattle.smi_mean.specs.WrittenPlaces.{closers, others}

@@ -13,9 +13,8 @@ use Rattle.mc_mol.specs.HalfEdges.{half_edges, AllHaveTwins}
 use Rattle.mc_mol.proofs.Lists.{All-head, All-tail}
 use Rattle.mc_mol.proofs.Halves.{are_joined-half_edges, same_test}
 use Rattle.smi_graph.specs.Links.{or_else}
-use Rattle.smi_mean.specs.Order.{Graph, graph_of, least, some_if, order, rank, parents, atoms}
+use Rattle.smi_mean.specs.Order.{Graph, graph_of, least, some_if, order, rank, parents, atoms, at, has_ring}
 use Rattle.smi_mean.specs.RingNumbers.{passing}
-use Rattle.smi_mean.specs.Written.{at, has_ring}
 use Rattle.smi_write.specs.declared.order.WrittenAtoms.{WrittenAtoms}
 use Rattle.smi_write.specs.Lesser.{lowest}
 use Rattle.smi_write.specs.WrittenOrder.{IsWrittenOrder, rank_behind, opens_ring}
@@ -172,7 +171,7 @@ ranked m w ranks parent_list h e f u less =
 
 -- The partners one after another
 
-passing_none : (p : ℕ → Bool) (n : ℕ) → ((v : ℕ) → v < n → p v ≡ false) → passing p n ≡ []
+pub passing_none : (p : ℕ → Bool) (n : ℕ) → ((v : ℕ) → v < n → p v ≡ false) → passing p n ≡ []
 passing_none p zero h = refl
 passing_none p (suc n) h = rw (passing_none p n (λ v less. h v (omega arith)), h n (omega arith)) refl
 

@@ -9,8 +9,7 @@ use Rattle.mc_mol.specs.WellFormed.{IsMolecule}
 use Rattle.mc_mol.specs.Parts.{are_connected, begins_part, part_count, independent_rings}
 use Rattle.mc_mol.proofs.Labelled.{some_found}
 use Rattle.mc_mol.proofs.Halves.{same_test}
-use Rattle.smi_mean.specs.Order.{Graph, graph_of, Step, order, parent_rank, parents, rank, atoms}
-use Rattle.smi_mean.specs.Written.{at}
+use Rattle.smi_mean.specs.Order.{Graph, graph_of, Step, order, parent_rank, parents, rank, atoms, at}
 use Rattle.smi_write.proofs.Counting.{count}
 use Rattle.smi_write.proofs.Walk.{Grown, grown, length_parents, rank_le}
 use Rattle.smi_write.proofs.Once.{length_steps, length_atoms, at_rank}

@@ -7,14 +7,14 @@ use Rattle.std.proofs.lemmas.List.{append-nil, append_assoc, length-map, map-app
 use Rattle.mc_mol.specs.declared.parts.Slot.{Slot}
 use Rattle.mc_mol.specs.Molecule.{Molecule}
 use Rattle.mc_mol.specs.Permutations.{is_even_permutation, place_in}
-use Rattle.mc_mol.specs.Same.{carried, SameCentre}
+use Rattle.mc_mol.specs.Same.{carried, entry, SameCentre}
 use Rattle.smi_lex.specs.declared.token.TokenKind.{TokenKind}
 use Rattle.smi_graph.specs.declared.role.Role.{Role}
 use Rattle.smi_graph.specs.declared.role.Role.TheVariants.{Atom}
 use Rattle.smi_graph.specs.Roles.{role_of}
-use Rattle.smi_mean.specs.Order.{Graph, graph_of, order, atoms, parents}
+use Rattle.smi_mean.specs.Order.{Graph, graph_of, order, atoms, parents, at, has_ring}
 use Rattle.smi_mean.specs.RingNumbers.{passing, partners, onto_all}
-use Rattle.smi_mean.specs.Written.{at, has_ring, graph_tokens, written_order}
+use Rattle.smi_mean.specs.Written.{graph_tokens, written_order}
 use Rattle.smi_lex.specs.declared.token.BondMark.{BondMark}
 use Rattle.smi_graph.specs.TextOrder.{predecessor_of, if_behind, followers, ring_partners, neighbours}
 use Rattle.smi_mean.specs.CentrePlaces.{atom_slot, rest_if, has_rest, place_list, places, said}
@@ -25,11 +25,16 @@ use Rattle.smi_write.proofs.Walk.{grown, nested, length_parents}
 use Rattle.smi_write.proofs.Once.{length_steps}
 use Rattle.smi_write.proofs.Whole.{graph_roles}
 use Rattle.smi_write.proofs.StructureLaw.{onto_reverse, tokens_are}
-use Rattle.smi_write.proofs.RoundTrip.{entry_is}
 use Rattle.smi_write.proofs.SameNumbers.{same_closers}
 use Rattle.smi_write.proofs.NeighboursRead.{Blocks, whole_blocks, children_from, followers_read, pred_read}
 use Rattle.smi_write.proofs.PartnersRead.{rings_read}
 use Rattle.smi_write.proofs.Exchange.{LastDiffer, mark_law}
+
+-- entry k of the written order is the atom at rank k
+pub entry_is : (us : List ℕ) (k : ℕ) → entry (map (λ u. record { 0 = u }) us) k ≡ get_or us k 0
+entry_is [] k = refl
+entry_is (u ∷ us) zero = refl
+entry_is (u ∷ us) (suc k) = entry_is us k
 
 -- Children in the order in which they are written
 

@@ -7,7 +7,7 @@ use Rattle.std.proofs.lemmas.Bool.{cases_eq, cases_lt, false≢true, ne_eqb, eqb
 use Rattle.std.proofs.lemmas.Bool.Decides.{nat_tests}
 use Rattle.std.proofs.Math.Bool.{or-false}
 use Rattle.smi_graph.proofs.SimpleBonds.{alone}
-use Rattle.smi_mean.specs.Order.{Graph, graph_of, order, rank}
+use Rattle.smi_mean.specs.Order.{Graph, graph_of, order, rank, at, before_one, rank_of}
 use Rattle.mc_mol.specs.declared.parts.Bond.{Bond}
 use Rattle.smi_graph.specs.Links.{bond_between, bonds_of}
 use Rattle.smi_mean.specs.RingNumbers.{onto_all}
@@ -16,7 +16,6 @@ use Rattle.smi_write.proofs.BondCounts.{hit, bond_count}
 use Rattle.mc_mol.specs.Molecule.{Molecule, joins, are_joined}
 use Rattle.mc_mol.proofs.Halves.{same_test}
 use Rattle.smi_write.proofs.Simple.{Simple}
-use Rattle.smi_mean.specs.Written.{at}
 use Rattle.smi_write.proofs.Walk.{grown, rank_le}
 use Rattle.smi_write.proofs.Once.{length_steps, each_written, at_rank, rank_at}
 use Rattle.smi_write.proofs.Sums.{InRange, bonds_sum, sums_same, in_range, length_is}
@@ -96,14 +95,6 @@ ranked_range n at_ pl (b ∷ bs) i s =
       | inl lt ↦ let t : nat_lt x y ≡ true = grind (arith, nat_tests) in rw t (lt, c)
       | inr ge ↦ let t : nat_lt x y ≡ false = grind (arith, nat_tests) in rw t (omega arith, a)
     ]
-
-abbrev pub before_one : ℕ → ℕ
-before_one zero = 0
-before_one (suc k) = k
-
--- the rank of an atom, from 0
-abbrev pub rank_of : Graph → ℕ → ℕ
-rank_of g u = before_one (rank (order g) u)
 
 suc_before : (k : ℕ) → 0 < k → suc (before_one k) ≡ k
 suc_before zero h = absurd (omega arith)

@@ -9,9 +9,8 @@ use Rattle.mc_mol.specs.Molecule.{Molecule, joins, are_joined}
 use Rattle.mc_mol.specs.WellFormed.{IsMolecule}
 use Rattle.mc_mol.specs.Parts.{independent_rings}
 use Rattle.mc_mol.proofs.Halves.{same_test}
-use Rattle.smi_mean.specs.Order.{Graph, graph_of, order, parents}
+use Rattle.smi_mean.specs.Order.{Graph, graph_of, order, parents, at, has_ring}
 use Rattle.smi_mean.specs.RingNumbers.{passing, partners}
-use Rattle.smi_mean.specs.Written.{at, has_ring}
 use Rattle.smi_write.proofs.Counting.{count, count_none, count_same, count_one}
 use Rattle.smi_write.proofs.Walk.{grown}
 use Rattle.smi_write.proofs.Once.{length_steps, distinct}

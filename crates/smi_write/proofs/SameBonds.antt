@@ -13,9 +13,8 @@ use Rattle.mc_mol.specs.Molecule.{Molecule, joins, are_joined}
 use Rattle.mc_mol.specs.Same.{HasBond}
 use Rattle.mc_mol.proofs.Halves.{same_test}
 use Rattle.smi_graph.specs.Links.{bonds_of}
-use Rattle.smi_mean.specs.Order.{Graph, order_between, graph_of}
+use Rattle.smi_mean.specs.Order.{Graph, order_between, graph_of, at}
 use Rattle.smi_mean.specs.RingNumbers.{onto_all}
-use Rattle.smi_mean.specs.Written.{at}
 use Rattle.smi_write.proofs.Hits.{bit}
 use Rattle.smi_write.proofs.BondCounts.{hit, bond_count}
 use Rattle.smi_write.proofs.Whole.{graph_roles, is_read}

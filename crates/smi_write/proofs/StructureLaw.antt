@@ -15,9 +15,9 @@ use Rattle.smi_lex.specs.declared.token.BondMark.{BondMark}
 use Rattle.std.specs.Prelude.{Option}
 use Rattle.smi_graph.specs.RingRules.{is_clash, is_pair_again}
 use Rattle.smi_graph.specs.Roles.{role_of}
-use Rattle.smi_mean.specs.Order.{Graph, graph_of, order, atoms, parents}
+use Rattle.smi_mean.specs.Order.{Graph, graph_of, order, atoms, parents, at, has_ring}
 use Rattle.smi_mean.specs.RingNumbers.{onto_all}
-use Rattle.smi_mean.specs.Written.{at, has_ring, graph_tokens}
+use Rattle.smi_mean.specs.Written.{graph_tokens}
 use Rattle.smi_write.specs.Structure.{ReadsAs, SayOrders}
 use Rattle.smi_write.proofs.Walk.{length_parents}
 use Rattle.smi_write.proofs.Once.{length_atoms}

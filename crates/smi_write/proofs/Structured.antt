@@ -1,10 +1,11 @@
 -- What is known of a written text once its tokens are read as the structure of its molecule.
 use Rattle.std.proofs.Common.{arith, ◌≡◌, ◌<◌, ◌≤◌, ◌+◌, ℕ, zero, suc, true, false, List, [], ◌∷◌, length, map, reverse, Option, Some, None, refl, sym, ap, subst, ◌∙◌}
-use Rattle.std.specs.Prelude.{slice_get, not}
+use Rattle.std.specs.Prelude.{slice_get, not, Bool}
 use Rattle.std.specs.List.{list_all}
 use Rattle.std.proofs.lemmas.List.Folds.{list_all-map}
 use Rattle.mc_mol.specs.declared.parts.Atom.{Atom}
 use Rattle.mc_mol.specs.declared.parts.Bond as bond
+use Rattle.mc_mol.specs.declared.parts.Slot.{Slot}
 use Rattle.mc_mol.specs.Molecule.{Molecule, bond_sum}
 use Rattle.mc_mol.specs.Parts.{independent_rings}
 use mathlib.Core.List.{reverse_aux}
@@ -22,16 +23,21 @@ use Rattle.smi_graph.specs.Links.{bonds_of}
 use Rattle.smi_graph.specs.Roles.{role_of, roles}
 use Rattle.smi_graph.specs.Reading.{is_plain, all_plain}
 use Rattle.smi_graph.specs.Rules.{atoms_in, bonds_in, is_built, is_built_kind, is_built_mark, roles_in}
+use Rattle.mc_rings.specs.Centres.{hydrogens_of}
+use Rattle.smi_mean.specs.CentrePlaces.{centre_of, places}
 use Rattle.smi_mean.specs.Meaning.{atoms_with, meaning}
-use Rattle.smi_mean.specs.Order.{Graph, graph_of, order, atoms, parents}
+use Rattle.smi_mean.specs.MeantCentres.{text_centres}
+use Rattle.smi_mean.specs.Order.{Graph, graph_of, order, atoms, parents, at, has_ring}
 use Rattle.smi_mean.specs.Sound.{IsSound}
-use Rattle.smi_mean.specs.Written.{at, atom_token, bond_symbol, has_ring, token_in, written_text, written_tokens}
+use Rattle.smi_mean.specs.Written.{atom_token, bond_symbol, token_in, written_text, written_tokens}
+use Rattle.smi_mean.specs.WrittenPlaces.{atom_mark}
 use Rattle.smi_write.specs.Structure.{ReadsAs, IsOrder}
 use Rattle.smi_write.proofs.Walk.{length_parents}
 use Rattle.smi_write.proofs.Once.{length_atoms}
 use Rattle.smi_write.proofs.TokenSpelled.{is_written_mark, IsWritten}
 use Rattle.smi_write.proofs.KindsRead.{AreWritten, kinds_read, unread_none}
 use Rattle.smi_write.proofs.TokensWritten.{RingsFit, role_of_atom, tokens_written}
+use Rattle.smi_write.proofs.MarksRead.{Says, all_said, atom_says, centre_at, centres_meant, meant_centre, meant_centres, said_at, token_centre, token_said, token_says}
 use Rattle.smi_write.proofs.AtomsRead.{atom_tokens, atoms_meant, atoms_of_text, length_meant, meant_at, meant_atoms, meant_by, token_means}
 
 -- the structure of the tokens that are written for a molecule
@@ -50,6 +56,10 @@ pub record IsRead (m : Molecule) (text : List ℕ) : Type 0 where
   pub count : length (atoms_in text) ≡ length m.atoms
   pub same_atoms : (k : ℕ) → k < length m.atoms → slice_get (meaning text).atoms k ≡ slice_get m.atoms (at (graph_of m) k)
   pub few_rings : independent_rings (bonds_in text) (length (atoms_in text)) ≤ 99
+  pub roles : roles_in text ≡ map role_of (written_tokens m)
+  pub centres : (k : ℕ) → k < length m.atoms
+      → slice_get (text_centres text) k ≡ Some (centre_of (atom_mark m (at (graph_of m) k)) (places (roles_in text) k (hydrogens_of (slice_get m.atoms (at (graph_of m) k)))))
+  pub said : (k : ℕ) → k < length m.atoms → slice_get (map atom_says (atoms_in text)) k ≡ Some (false, atom_mark m (at (graph_of m) k))
 
 -- every token is one that is read today
 
@@ -65,9 +75,7 @@ mark_built Backslash is = cc
 one_built : (kind : TokenKind) → IsWritten kind → is_built_kind kind ≡ true
 one_built (Bare element true) is = cc
 one_built (Bare element false) is = refl
-one_built (Bracket element true isotope chiral hydrogens charge class) is = let upper = is.upper in cc
-one_built (Bracket element false isotope (Some turn) hydrogens charge class) is = let plain = is.plain in cc
-one_built (Bracket element false isotope None hydrogens charge class) is = refl
+one_built (Bracket element lower isotope chiral hydrogens charge class) is = refl
 one_built (Bond mark) is = mark_built mark is
 one_built (Ring number) is = refl
 one_built Enter is = refl
@@ -113,18 +121,32 @@ atoms_written m =
     atoms_of_text (λ j l. bond_symbol g j l) (λ j l. has_ring g j l) g.count 0 (atom_token m) (atoms (order g)) (parents (order g))
     (role_of_atom m) (length_atoms (order g) ∙ sym (length_parents (order g)))
 
+some_atom : (atoms : List Atom) (k : ℕ) → k < length atoms → (atom : Atom) × (slice_get atoms k ≡ Some atom)
+some_atom [] k less = absurd (omega arith)
+some_atom (atom ∷ atoms) zero less = (atom, refl)
+some_atom (atom ∷ atoms) (suc k) less = some_atom atoms k (omega arith)
+
 -- an atom's token means the atom
 token_at : (m : Molecule) (u : ℕ) → u < length m.atoms → ◌≡◌ {A = Option Atom} (Some (meant_by (atom_token m u) (bond_sum m.bonds u))) (slice_get m.atoms u)
-token_at m u inside = found (slice_get m.atoms u) (there m.atoms u inside)
-  where
-    there : (atoms : List Atom) (k : ℕ) → k < length atoms → slice_get atoms k ≡ None → ⊥
-    there [] k less none = omega arith
-    there (atom ∷ atoms) zero less none = cc
-    there (atom ∷ atoms) (suc k) less none = there atoms k (omega arith) none
+token_at m u inside =
+    let (atom, found) = some_atom m.atoms u inside in
+    ap (λ (o : Option Atom). Some (meant_by (token_in o (bond_sum m.bonds u) (atom_mark m u)) (bond_sum m.bonds u))) found
+    ∙ ap (λ (x : Atom). Some x) (token_means atom (bond_sum m.bonds u) (atom_mark m u)) ∙ sym found
 
-    found : (o : Option Atom) → (o ≡ None → ⊥) → ◌≡◌ {A = Option Atom} (Some (meant_by (token_in o (bond_sum m.bonds u)) (bond_sum m.bonds u))) o
-    found None some = absurd (some refl)
-    found (Some atom) some = ap Some (token_means atom (bond_sum m.bonds u))
+-- and says its centre, its case and its mark
+centre_said : (m : Molecule) (ks : List Role) (k u : ℕ) → u < length m.atoms
+    → ◌≡◌ {A = Option (Option (List Slot))} (Some (meant_centre ks k (atom_token m u))) (Some (centre_of (atom_mark m u) (places ks k (hydrogens_of (slice_get m.atoms u)))))
+centre_said m ks k u inside =
+    let (atom, found) = some_atom m.atoms u inside in
+    ap (λ (o : Option Atom). Some (meant_centre ks k (token_in o (bond_sum m.bonds u) (atom_mark m u)))) found
+    ∙ ap (λ (c : Option (List Slot)). Some c) (token_centre ks k atom (bond_sum m.bonds u) (atom_mark m u))
+    ∙ ap (λ (o : Option Atom). Some (centre_of (atom_mark m u) (places ks k (hydrogens_of o)))) (sym found)
+
+mark_said : (m : Molecule) (u : ℕ) → u < length m.atoms → ◌≡◌ {A = Option Says} (Some (token_says (atom_token m u))) (Some (false, atom_mark m u))
+mark_said m u inside =
+    let (atom, found) = some_atom m.atoms u inside in
+    ap (λ (o : Option Atom). Some (token_says (token_in o (bond_sum m.bonds u) (atom_mark m u)))) found
+    ∙ ap (λ (x : Says). Some x) (token_said atom (bond_sum m.bonds u) (atom_mark m u))
 
 read_as : (m : Molecule) (text : List ℕ) → Structured m → AreWritten (written_tokens m) → unread text ≡ []
     → map (λ token. token.kind) (tokens text) ≡ written_tokens m → IsRead m text
@@ -137,6 +159,11 @@ read_as m text structured are left same =
     let meant : atoms_with bonds 0 (atoms_in text) ≡ meant_atoms bonds 0 (map (atom_token m) us) =
     atoms_meant bonds 0 (tokens text) ∙ ap (λ (ks : List TokenKind). meant_atoms bonds 0 (atom_tokens ks)) same
     ∙ ap (meant_atoms bonds 0) (atoms_written m) in
+    let listed : text_centres text ≡ meant_centres (roles_in text) 0 (map (atom_token m) us) =
+    centres_meant (roles_in text) 0 (tokens text) ∙ ap (λ (ks : List TokenKind). meant_centres (roles_in text) 0 (atom_tokens ks)) same
+    ∙ ap (meant_centres (roles_in text) 0) (atoms_written m) in
+    let says : map atom_says (atoms_in text) ≡ map token_says (map (atom_token m) us) =
+    all_said (tokens text) ∙ ap (λ (ks : List TokenKind). map token_says (atom_tokens ks)) same ∙ ap (map token_says) (atoms_written m) in
     let whole : length us ≡ length m.atoms = structured.order.whole in
     let count : length (atoms_in text) ≡ length m.atoms =
     sym (length_with bonds 0 (atoms_in text)) ∙ ap (λ (xs : List Atom). length xs) meant ∙ length_meant bonds 0 (atom_token m) us ∙ whole in
@@ -154,6 +181,17 @@ read_as m text structured are left same =
           ∙ token_at m (at g k) (structured.order.in_range k less);
       few_rings = subst (λ (n : ℕ). independent_rings bonds n ≤ 99) (sym count)
           (subst (λ (rs : List Role). independent_rings (bonds_of (reverse rs)) (length m.atoms) ≤ 99) (sym same_roles) structured.rings);
+      roles = same_roles;
+      centres = λ k less.
+          let from_none : 0 + k ≡ k = omega arith in
+          ap (λ (cs : List (Option (List Slot))). slice_get cs k) listed
+          ∙ centre_at (roles_in text) (atom_token m) us 0 k (omega arith)
+          ∙ ap (λ (n : ℕ). Some (meant_centre (roles_in text) n (atom_token m (at g k)))) from_none
+          ∙ centre_said m (roles_in text) k (at g k) (structured.order.in_range k less);
+      said = λ k less.
+          ap (λ (xs : List Says). slice_get xs k) says
+          ∙ said_at (atom_token m) us k (omega arith)
+          ∙ mark_said m (at g k) (structured.order.in_range k less);
     }
 
 pub is_read : (m : Molecule) → IsSound m → Structured m → IsRead m (written_text m)

@@ -1,5 +1,5 @@
 -- One atom more is written.
-use Rattle.std.proofs.Common.{◌≡◌, ℕ, suc, ◌+◌, ◌≤◌, ◌<◌, List, ◌∷◌, ◌++◌, length, map, drop, get_or, false, ap, sym, ◌∙◌, subst, arith}
+use Rattle.std.proofs.Common.{◌≡◌, ℕ, suc, ◌+◌, ◌≤◌, ◌<◌, List, ◌∷◌, ◌++◌, length, map, drop, get_or, false, Bool, Option, ap, sym, ◌∙◌, subst, arith}
 use Rattle.std.specs.Prelude.{flat_map}
 use Rattle.std.specs.List.{All}
 use Rattle.std.proofs.lemmas.List.{append_assoc, length-map, get_or-map, get_or_default}
@@ -10,9 +10,11 @@ use Rattle.mc_mol.specs.Molecule.{Molecule}
 use Rattle.smi_lex.specs.declared.token.TokenKind.{TokenKind}
 use Rattle.smi_lex.specs.declared.token.TokenKind.TheVariants.{Bare}
 use Rattle.mc_elements.specs.declared.element.Element.TheVariants.{C}
-use Rattle.smi_mean.specs.Order.{graph_of, order, parents, atoms}
+use Rattle.smi_mean.specs.Order.{graph_of, order, parents, atoms, at, has_ring}
 use Rattle.smi_mean.specs.RingNumbers.{ending, kept, sorted, onto_all}
-use Rattle.smi_mean.specs.Written.{at, bond_symbol, has_ring, before_atom, atom_token, text_from, ring_tokens, closed_tokens, opened_tokens, spelling}
+use Rattle.smi_mean.specs.Written.{bond_symbol, before_atom, atom_token, text_from, ring_tokens, closed_tokens, opened_tokens, spelling}
+use Rattle.smi_mean.specs.WrittenPlaces.{atom_mark}
+use Rattle.smi_write.specs.CentreMarks.{marked_token}
 use Rattle.smi_write.specs.declared.order.WrittenAtoms.{WrittenAtoms}
 use Rattle.smi_write.specs.declared.ring_numbers.OpenRing.{OpenRing}
 use Rattle.smi_write.specs.OpenRings.{Holds}
@@ -51,14 +53,15 @@ joined old mid new b t r s s' e f g =
     ap (λ (x : List ℕ). new ++ x) e ∙ ap (λ (x : List ℕ). x ++ s) (g ∙ ap (λ (x : List ℕ). x ++ r) f)
     ∙ append_assoc (old ++ (b ++ t)) r s ∙ append_assoc old (b ++ t) (r ++ s) ∙ ap (λ (x : List ℕ). old ++ x) (append_assoc b t (r ++ s))
 
-pub text_step : (m : Molecule) (w : WrittenAtoms) (k : ℕ) (old mid new whole : List ℕ) → IsWrittenOrder m w → k < length m.atoms
-    → mid ≡ old ++ (flat_map spelling (before_atom (λ j l. bond_symbol (graph_of m) j l) k (get_or w.parents.items k 0) (drop (k + 1) w.parents.items)) ++ spelling (atom_token m (at (graph_of m) k)))
+pub text_step : (m : Molecule) (w : WrittenAtoms) (k : ℕ) (mark : Option Bool) (old mid new whole : List ℕ) → IsWrittenOrder m w → k < length m.atoms
+    → mark ≡ atom_mark m (at (graph_of m) k) → mid ≡ old ++ (flat_map spelling (before_atom (λ j l. bond_symbol (graph_of m) j l) k (get_or w.parents.items k 0) (drop (k + 1) w.parents.items)) ++ spelling (marked_token m (at (graph_of m) k) mark))
     → new ≡ mid ++ flat_map spelling (closed_tokens (sorted (ending k (open_pairs m k))) ++ opened_tokens (opened_pairs m (open_pairs m k) k (later_partners m k k)))
     → old ++ flat_map spelling (rest_tokens m k) ≡ whole → new ++ flat_map spelling (rest_tokens m (k + 1)) ≡ whole
-text_step m w k old mid new whole h less e f was =
+text_step m w k mark old mid new whole h less is_mark e f was =
     let one : k + 1 ≡ suc k = omega arith in
     let e' : mid ≡ old ++ (flat_map spelling (before_atom (λ j l. bond_symbol (graph_of m) j l) k (get_or (parents (order (graph_of m))) k 0) (drop (suc k) (parents (order (graph_of m))))) ++ spelling (atom_token m (at (graph_of m) k))) =
-    e ∙ ap (λ (x : List ℕ). old ++ (flat_map spelling (before_atom (λ j l. bond_symbol (graph_of m) j l) k (get_or x k 0) (drop (k + 1) x)) ++ spelling (atom_token m (at (graph_of m) k)))) h.parents_are
+    e ∙ ap (λ (x : Option Bool). old ++ (flat_map spelling (before_atom (λ j l. bond_symbol (graph_of m) j l) k (get_or w.parents.items k 0) (drop (k + 1) w.parents.items)) ++ spelling (marked_token m (at (graph_of m) k) x))) is_mark
+    ∙ ap (λ (x : List ℕ). old ++ (flat_map spelling (before_atom (λ j l. bond_symbol (graph_of m) j l) k (get_or x k 0) (drop (k + 1) x)) ++ spelling (atom_token m (at (graph_of m) k)))) h.parents_are
     ∙ ap (λ (n : ℕ). old ++ (flat_map spelling (before_atom (λ j l. bond_symbol (graph_of m) j l) k (get_or (parents (order (graph_of m))) k 0) (drop n (parents (order (graph_of m))))) ++ spelling (atom_token m (at (graph_of m) k)))) one in
     joined old mid new
     (flat_map spelling (before_atom (λ j l. bond_symbol (graph_of m) j l) k (get_or (parents (order (graph_of m))) k 0) (drop (suc k) (parents (order (graph_of m))))))

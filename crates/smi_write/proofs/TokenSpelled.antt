@@ -5,16 +5,15 @@ use Rattle.std.proofs.lemmas.Bool.{cases_Bool, eqb-true, ltb-true, ltb-false}
 use Rattle.mc_elements.specs.Elements.{symbol}
 use Rattle.smi_lex.specs.declared.token.TokenKind.{TokenKind}
 use Rattle.smi_lex.specs.declared.token.TokenKind.TheVariants.{Bare, Bracket, Bond, Ring, Enter, Leave, Dot}
-use Rattle.smi_lex.specs.Grammar.{may_be_bare, Spells, SpellsAmount, SpellsCharge, SpellsClass, SpellsHydrogens, SpellsIsotope, SpellsRing}
+use Rattle.smi_lex.specs.Grammar.{may_be_bare, Spells, SpellsAmount, SpellsCharge, SpellsChiral, SpellsClass, SpellsHydrogens, SpellsIsotope, SpellsRing}
 use Rattle.smi_lex.proofs.Written.{amount_written, class_written, hydrogens_written, isotope_written, ring_percent_written, ring_written}
 use Rattle.smi_lex.specs.declared.token.BondMark.{BondMark}
 use Rattle.smi_lex.specs.declared.token.BondMark.TheVariants.{Double, Triple, Quadruple}
-use Rattle.smi_mean.specs.Written.{amount_text, charge_text, class_text, hydrogens_text, isotope_text, ring_text, spelling}
+use Rattle.smi_mean.specs.Written.{amount_text, charge_text, chiral_text, class_text, hydrogens_text, isotope_text, ring_text, spelling}
 
--- a bracket that is written: in upper case, without chirality, and within the limits
-pub record IsWrittenBracket (lower : Bool) (isotope : ℕ) (chiral : Option Bool) (hydrogens : ℕ) (charge : ℤ) (class : ℕ) : Type 0 where
+-- a bracket that is written: in upper case and within the limits
+pub record IsWrittenBracket (lower : Bool) (isotope hydrogens : ℕ) (charge : ℤ) (class : ℕ) : Type 0 where
   pub upper : lower ≡ false
-  pub plain : chiral ≡ None
   pub low_isotope : isotope ≤ 999
   pub few_hydrogens : hydrogens ≤ 9
   pub low_charge : nat_abs charge ≤ 15
@@ -30,7 +29,7 @@ is_written_mark _ = false
 -- a token that the written form has
 abbrev pub IsWritten : TokenKind → Type 0
 IsWritten (Bare element lower) = (lower ≡ false) × (may_be_bare element lower ≡ true)
-IsWritten (Bracket element lower isotope chiral hydrogens charge class) = IsWrittenBracket lower isotope chiral hydrogens charge class
+IsWritten (Bracket element lower isotope chiral hydrogens charge class) = IsWrittenBracket lower isotope hydrogens charge class
 IsWritten (Bond mark) = is_written_mark mark ≡ true
 IsWritten (Ring number) = number < 100
 IsWritten Enter = Unit {0}
@@ -42,6 +41,11 @@ isotope_spelled n few = elim (cases_Bool (n == 0)) [
   | inl none ↦ rw none (inl (refl, eqb-true n 0 none))
   | inr some ↦ rw some (isotope_written n (omega arith))
 ]
+
+chiral_spelled : (chiral : Option Bool) → SpellsChiral chiral (chiral_text chiral)
+chiral_spelled None = refl
+chiral_spelled (Some true) = inl refl
+chiral_spelled (Some false) = inl refl
 
 hydrogens_spelled : (n : ℕ) → n ≤ 9 → SpellsHydrogens n (hydrogens_text n)
 hydrogens_spelled n few = elim (cases_Bool (n == 0)) [
@@ -79,17 +83,16 @@ pub token_spelled : (kind : TokenKind) → IsWritten kind → Spells kind (spell
 token_spelled (Bare element true) is = cc
 token_spelled (Bare element false) is = (is.1, refl)
 token_spelled (Bracket element true isotope chiral hydrogens charge class) is = let upper = is.upper in cc
-token_spelled (Bracket element false isotope (Some turn) hydrogens charge class) is = let plain = is.plain in cc
-token_spelled (Bracket element false isotope None hydrogens charge class) is = record {
+token_spelled (Bracket element false isotope chiral hydrogens charge class) is = record {
   isotope_text = isotope_text isotope;
   symbol_text = symbol element;
-  chiral_text = [];
+  chiral_text = chiral_text chiral;
   hydrogens_text = hydrogens_text hydrogens;
   charge_text = charge_text charge;
   class_text = class_text class;
   isotope_spelled = isotope_spelled isotope is.low_isotope;
   symbol_spelled = refl;
-  chiral_spelled = refl;
+  chiral_spelled = chiral_spelled chiral;
   hydrogens_spelled = hydrogens_spelled hydrogens is.few_hydrogens;
   charge_spelled = charge_spelled charge is.low_charge;
   class_spelled = class_spelled class is.low_class;

@@ -16,9 +16,8 @@ use Rattle.smi_graph.specs.Links.{bonds_of}
 use Rattle.mc_mol.specs.declared.parts.Bond.{Bond}
 use Rattle.mc_mol.proofs.Halves.{same_test}
 use Rattle.smi_graph.specs.RingRules.{is_clash, pairs_again, is_pair_again}
-use Rattle.smi_mean.specs.Order.{Graph, order, parents}
+use Rattle.smi_mean.specs.Order.{Graph, order, parents, at, has_ring}
 use Rattle.smi_mean.specs.RingNumbers.{onto_all, active}
-use Rattle.smi_mean.specs.Written.{at, has_ring}
 use Rattle.smi_write.specs.Nested.{IsNested}
 use Rattle.smi_write.proofs.Along.{Along}
 use Rattle.smi_write.proofs.RingLaw.{opening_of}

@@ -8,3 +8,4 @@ pub mod WrittenOrder
 pub mod Texts
 pub mod Structure
 pub mod ReadBack
+pub mod CentreMarks

@@ -1,9 +1,9 @@
 -- How far the ring numbers that open at an atom are written.
 use Rattle.std.specs.Prelude.{◌≡◌, ℕ, ◌&&◌, nat_lt, List, ◌++◌, length, flat_map}
 use Rattle.mc_mol.specs.Molecule.{Molecule}
-use Rattle.smi_mean.specs.Order.{graph_of}
+use Rattle.smi_mean.specs.Order.{graph_of, has_ring}
 use Rattle.smi_mean.specs.RingNumbers.{Pair, passing, opened, onto_all}
-use Rattle.smi_mean.specs.Written.{spelling, opened_tokens, has_ring, bond_symbol}
+use Rattle.smi_mean.specs.Written.{spelling, opened_tokens, bond_symbol}
 use Rattle.smi_write.specs.declared.ring_numbers.OpenRing.{OpenRing}
 use Rattle.smi_write.specs.OpenRings.{Holds}
 

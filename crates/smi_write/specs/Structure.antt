@@ -10,8 +10,7 @@ use Rattle.smi_graph.specs.declared.text_bond.TextBond.{TextBond}
 use Rattle.smi_graph.specs.Bonds.{atom_count, open_end, text_bonds}
 use Rattle.smi_graph.specs.Links.{bonds_of, order_of}
 use Rattle.smi_graph.specs.RingRules.{clash_at, pair_again_at}
-use Rattle.smi_mean.specs.Order.{graph_of, order_between}
-use Rattle.smi_mean.specs.Written.{at}
+use Rattle.smi_mean.specs.Order.{graph_of, order_between, at}
 
 -- the symbols of bonds, by the ranks of their atoms, say the orders of the molecule's bonds
 abbrev pub SayOrders : Molecule → (ℕ → ℕ → Option BondMark) → Type 0

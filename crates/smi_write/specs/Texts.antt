@@ -2,9 +2,9 @@
 use Rattle.std.specs.Prelude.{ℕ, List, length, map, drop}
 use Rattle.mc_mol.specs.Molecule.{Molecule}
 use Rattle.smi_lex.specs.declared.token.TokenKind.{TokenKind}
-use Rattle.smi_mean.specs.Order.{graph_of, order, atoms, parents}
+use Rattle.smi_mean.specs.Order.{graph_of, order, atoms, parents, has_ring}
 use Rattle.smi_mean.specs.RingNumbers.{Pair, active}
-use Rattle.smi_mean.specs.Written.{atom_token, text_from, bond_symbol, has_ring}
+use Rattle.smi_mean.specs.Written.{atom_token, text_from, bond_symbol}
 
 -- the tokens of the atoms from rank k on
 abbrev pub rest_tokens : Molecule → ℕ → List TokenKind

@@ -2,9 +2,8 @@
 use Rattle.std.specs.Prelude.{◌≡◌, ℕ, ◌+◌, ◌-◌, ◌<◌, ◌≤◌, Bool, true, false, ◌&&◌, not, ◌==◌, nat_lt, List, [], ◌∷◌, ◌++◌, Option, Some, None, length, map, take, drop, get_or}
 use Rattle.mc_mol.specs.declared.parts.HalfEdge.{HalfEdge}
 use Rattle.mc_mol.specs.Molecule.{Molecule}
-use Rattle.smi_mean.specs.Order.{Graph, graph_of, Step, order, rank, parents, atoms}
+use Rattle.smi_mean.specs.Order.{Graph, graph_of, Step, order, rank, parents, atoms, has_ring}
 use Rattle.smi_mean.specs.RingNumbers.{has}
-use Rattle.smi_mean.specs.Written.{has_ring}
 use Rattle.smi_write.specs.declared.order.WrittenAtoms.{WrittenAtoms}
 
 -- the order of the bond to a parent, and 1 where there is none

@@ -1,11 +1,11 @@
 //! The bytes of atoms, ring numbers and bond symbols.
 
-ghost use Rattle.std.specs.Prelude.{◌≡◌, ◌++◌, ◌<◌, OnOk, flat_map, decimal, false, None};
+ghost use Rattle.std.specs.Prelude.{◌≡◌, ◌++◌, ◌<◌, OnOk, flat_map, decimal, codes, false};
 ghost use Rattle.mc_elements.specs.Elements.{symbol};
 ghost use Rattle.mc_elements.specs.Valences.{smiles_valences, implied};
 ghost use Rattle.smi_lex.specs.declared.token.TokenKind.TheVariants.{Bracket};
 ghost use Rattle.smi_lex.specs.Grammar.{may_be_bare};
-ghost use Rattle.smi_mean.specs.Written.{is_bare, token_of, spelling, isotope_text, hydrogens_text, charge_text, class_text, ring_text, mark_tokens, symbol_of};
+ghost use Rattle.smi_mean.specs.Written.{is_bare, token_of, spelling, isotope_text, chiral_text, hydrogens_text, charge_text, class_text, ring_text, mark_tokens, symbol_of};
 
 use mc_base::{NoMemory, Text};
 use mc_digits::put_number;
@@ -69,17 +69,39 @@ fn push_class(text: &mut Text, class: u16) -> Result<(), NoMemory>
     put_number(text, class as u64)
 }
 
-fn push_bracket(text: &mut Text, atom: Atom) -> Result<(), NoMemory>
-    ensures { OnOk result (text.new ≡ text.old ++ spelling (Bracket atom.element false atom.isotope None atom.hydrogens atom.charge atom.class)) }
+/// `@`, `@@` or nothing.
+fn push_chirality(text: &mut Text, chiral: Option<bool>) -> Result<(), NoMemory>
+    ensures { OnOk result (text.new ≡ text.old ++ chiral_text chiral) }
 {
-    text.push(b'[')?;
-    push_isotope(text, atom.isotope)?;
-    push_element(text, atom.element)?;
+    match chiral {
+        Some(true) => text.push(b'@'),
+        Some(false) => {
+            text.push(b'@')?;
+            text.push(b'@')
+        }
+        None => Ok(()),
+    }
+}
+
+/// What stands behind the chirality of a bracket.
+fn push_values(text: &mut Text, atom: Atom) -> Result<(), NoMemory>
+    ensures { OnOk result (text.new ≡ text.old ++ (hydrogens_text atom.hydrogens ++ (charge_text atom.charge ++ (class_text atom.class ++ codes "]")))) }
+{
     push_hydrogens(text, atom.hydrogens)?;
     push_charge(text, atom.charge)?;
     push_class(text, atom.class)?;
     text.push(b']')?;
     Ok(())
+}
+
+fn push_bracket(text: &mut Text, atom: Atom, chiral: Option<bool>) -> Result<(), NoMemory>
+    ensures { OnOk result (text.new ≡ text.old ++ spelling (Bracket atom.element false atom.isotope chiral atom.hydrogens atom.charge atom.class)) }
+{
+    text.push(b'[')?;
+    push_isotope(text, atom.isotope)?;
+    push_element(text, atom.element)?;
+    push_chirality(text, chiral)?;
+    push_values(text, atom)
 }
 
 fn may_be_bare(element: Element) -> bool
@@ -121,14 +143,14 @@ fn is_bare(atom: Atom, sum: u32) -> bool
         && atom.hydrogens == bare_hydrogens(atom.element, sum)
 }
 
-/// An atom with this bond sum.
-pub fn push_atom(text: &mut Text, atom: Atom, sum: u32) -> Result<(), NoMemory>
-    ensures { OnOk result (text.new ≡ text.old ++ spelling (token_of atom sum)) }
+/// An atom with this bond sum, and with the mark of a centre where it is one.
+pub fn push_atom(text: &mut Text, atom: Atom, sum: u32, mark: Option<bool>) -> Result<(), NoMemory>
+    ensures { OnOk result (text.new ≡ text.old ++ spelling (token_of atom sum mark)) }
 {
-    if is_bare(atom, sum) {
+    if mark.is_none() && is_bare(atom, sum) {
         push_element(text, atom.element)
     } else {
-        push_bracket(text, atom)
+        push_bracket(text, atom, mark)
     }
 }
 

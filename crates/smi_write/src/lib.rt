@@ -4,6 +4,7 @@
 mod atom_text;
 mod bonds;
 mod law;
+mod mark;
 mod order;
 mod order_at;
 mod ring_numbers;

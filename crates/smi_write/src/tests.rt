@@ -1,3 +1,6 @@
+mod centres;
+mod plain_places;
+
 use crate::write::written_form;
 use mc_base::{AtomId, Text};
 use mc_elements::Element;

@@ -5,14 +5,16 @@ ghost use Rattle.mc_mol.specs.declared.limits.TheConstants.{ATOM_LIMIT};
 ghost use Rattle.mc_mol.specs.Molecule.{bond_sum};
 ghost use Rattle.mc_mol.specs.WellFormed.{IsMolecule};
 ghost use Rattle.smi_lex.specs.declared.token.TokenKind.TheVariants.{Enter, Leave};
-ghost use Rattle.smi_mean.specs.Order.{graph_of, order, parents};
+ghost use Rattle.smi_mean.specs.Order.{graph_of, order, parents, at};
 ghost use Rattle.smi_mean.specs.RingNumbers.{has};
-ghost use Rattle.smi_mean.specs.Written.{at, bond_symbol, before_atom, atom_token, spelling, written_text, if_not, mark_tokens, symbol_of};
+ghost use Rattle.smi_mean.specs.Written.{bond_symbol, before_atom, spelling, written_text, if_not, mark_tokens, symbol_of};
+ghost use Rattle.smi_write.specs.CentreMarks.{CentresFit, marked_token};
 ghost use Rattle.smi_write.specs.WrittenOrder.{IsWrittenOrder, LastChildren};
 
 use crate::atom_text::{push_atom, push_symbol};
+use crate::mark::MarkLists;
 use crate::order::WrittenAtoms;
-use crate::ring_numbers::push_rings;
+use crate::ring_numbers::{find_closing, push_rings};
 use mc_base::{NoMemory, Text};
 use mc_mol::{Mol, bond_sums};
 use std::alloc::Global;
@@ -72,7 +74,7 @@ fn push_before(
     push_bond(text, parent == rank, later, written.orders[rank as usize])
 }
 
-/// An atom with what stands before it.
+/// An atom with what stands before it, and with this mark.
 fn push_step(
     text: &mut Text,
     mol: &Mol,
@@ -80,6 +82,7 @@ fn push_step(
     sums: &[u32],
     last: &[u32],
     rank: u32,
+    mark: Option<bool>,
 ) -> Result<(), NoMemory>
     requires written { IsWrittenOrder mol.now written.now }
     requires molecule { IsMolecule mol.now }
@@ -89,11 +92,11 @@ fn push_step(
     requires within { rank < length mol.now.atoms }
     ensures { OnOk result (text.new ≡ text.old ++ (flat_map spelling (before_atom (λ j l. bond_symbol (graph_of mol.now) j l) rank
         (slice_index_or written.now.parents.items rank 0) (drop (rank + 1) written.now.parents.items))
-        ++ spelling (atom_token mol.now (at (graph_of mol.now) rank)))) }
+        ++ spelling (marked_token mol.now (at (graph_of mol.now) rank) mark))) }
 {
     push_before(text, mol, written, last, rank)?;
     let id = written.atoms[rank as usize];
-    push_atom(text, mol.atom(id), sums[id.0 as usize])?;
+    push_atom(text, mol.atom(id), sums[id.0 as usize], mark)?;
     Ok(())
 }
 
@@ -102,20 +105,24 @@ fn usual_length(mol: &Mol) -> usize {
     4 * mol.atom_count() as usize + 16
 }
 
-/// The text of a molecule in its written order.
+/// The text of a molecule in its written order. Which ring numbers close at an atom is known before the atom
+/// is written, since the mark of a centre depends on their order.
 pub fn text_of(alloc: Global, mol: &Mol, written: &WrittenAtoms) -> Result<Text, NoMemory>
     requires written { IsWrittenOrder mol.now written.now }
     requires molecule { IsMolecule mol.now }
-    ensures { IfOk result (λ text. text ≡ written_text mol.now) }
+    ensures { IfOk result (λ text. CentresFit mol.now → text ≡ written_text mol.now) }
 {
     let sums = bond_sums(alloc, mol.bonds(), mol.atom_count() as usize)?;
     let last = last_children(alloc, &written.parents)?;
     let mut rings = Vec::new(alloc);
     let mut closing = Vec::new(alloc);
+    let mut lists = MarkLists::new(alloc);
     let mut text = Text::from_vec(Vec::with_capacity(alloc, usual_length(mol))?);
     for rank in 0..mol.atom_count() {
-        push_step(&mut text, mol, written, &sums, &last, rank)?;
-        push_rings(&mut text, mol, written, &mut rings, &mut closing, rank)?;
+        find_closing(&mut closing, &rings, rank)?;
+        let mark = lists.mark(mol, written, &rings, &closing, &last, rank)?;
+        push_step(&mut text, mol, written, &sums, &last, rank, mark)?;
+        push_rings(&mut text, mol, written, &mut rings, &closing, rank)?;
     }
     Ok(text)
 }

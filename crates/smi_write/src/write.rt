@@ -4,6 +4,7 @@ ghost use Rattle.mc_mol.specs.declared.limits.TheConstants.{ATOM_LIMIT};
 ghost use Rattle.mc_mol.specs.WellFormed.{IsMolecule};
 ghost use Rattle.smi_mean.specs.Sound.{IsSound};
 ghost use Rattle.smi_mean.specs.Written.{written_text, written_order};
+ghost use Rattle.smi_write.specs.CentreMarks.{CentresFit};
 ghost use Rattle.smi_write.specs.ReadBack.{IsReadBack};
 
 use crate::order::order;
@@ -12,9 +13,9 @@ use mc_base::{AtomList, NoMemory, Written};
 use mc_mol::Mol;
 use std::alloc::Global;
 
-/// The text and the order of any molecule, whether or not it is within the limits.
+/// The text and the order of any molecule whose centres may be centres, whether or not it is within the limits.
 pub fn written_form(alloc: Global, mol: &Mol) -> Result<Written, NoMemory>
-    ensures text { IfOk result (λ written. written.text ≡ written_text mol.now) }
+    ensures text { IfOk result (λ written. CentresFit mol.now → written.text ≡ written_text mol.now) }
     ensures order { IfOk result (λ written. written.order ≡ written_order mol.now) }
     ensures in_range { IfOk result (λ written. All (λ atom. atom.0 < length mol.now.atoms) written.order) }
     ensures molecule { IsMolecule mol.now }

@@ -4,8 +4,7 @@ ghost use Rattle.std.specs.Option.{option_to_list};
 ghost use Rattle.std.specs.Prelude.{◌≡◌, ◌++◌, ◌<◌, ℕ, OnOk, length, map, get_or};
 ghost use Rattle.mc_mol.specs.WellFormed.{IsMolecule};
 ghost use Rattle.smi_mean.specs.CentrePlaces.{atom_slot, has_rest, rest_if};
-ghost use Rattle.smi_mean.specs.Order.{graph_of};
-ghost use Rattle.smi_mean.specs.Written.{at};
+ghost use Rattle.smi_mean.specs.Order.{graph_of, at};
 ghost use Rattle.mc_mol.specs.Permutations.{is_even_permutation as is_even};
 ghost use Rattle.smi_mean.specs.WrittenPlaces.{atom_at as rank_atom, others as other_ranks, parent_of, written_places};
 ghost use Rattle.smi_write.specs.WrittenOrder.{IsWrittenOrder};
@@ -94,8 +93,7 @@ pub fn find_places(
 
 /// Whether the mark of a centre is `@`, where the written order of its places has four.
 pub fn is_plain_mark(centre: &[Slot; 4], places: &[Slot]) -> bool
-    requires { length places.now ≡ 4 }
-    ensures { result ≡ is_even centre.now places.now }
+    ensures { length places.now ≡ 4 → result ≡ is_even centre.now places.now }
 {
     match places {
         [first, second, third, fourth] => {

@@ -6,7 +6,10 @@ use std::process::Abort;
 use std::test::Fail;
 
 /// Each record is written so, under this map.
-fn are_written(rt: &(impl Abort + AllocGlobal), rows: &[(&str, &str, &str)]) -> Result<(), Fail> {
+pub fn are_written(
+    rt: &(impl Abort + AllocGlobal),
+    rows: &[(&str, &str, &str)],
+) -> Result<(), Fail> {
     let alloc = rt.alloc();
     for (record, written, map) in rows {
         let out = joined(alloc, &[written, "\n"])?;
@@ -24,7 +27,7 @@ fn are_written(rt: &(impl Abort + AllocGlobal), rows: &[(&str, &str, &str)]) -> 
 }
 
 /// Each record is refused so.
-fn are_refused(rt: &(impl Abort + AllocGlobal), rows: &[(&str, &str)]) -> Result<(), Fail> {
+pub fn are_refused(rt: &(impl Abort + AllocGlobal), rows: &[(&str, &str)]) -> Result<(), Fail> {
     let alloc = rt.alloc();
     for (record, refusal) in rows {
         let report = joined(alloc, &["1 refused ", refusal, "\n"])?;
@@ -174,7 +177,6 @@ fn wrong_tokens(rt: HostRuntime) -> Result<(), Fail> {
             ("F[C@TB1]", "OtherChirality place=2"),
             // what isn't read yet
             ("F/C=C/F", "NotBuilt place=1"),
-            ("N[C@](F)(Cl)Br", "NotBuilt place=1"),
         ],
     )
 }

@@ -30,7 +30,7 @@ fn says(
 }
 
 /// Originals, converted records and a report, by the verdicts.
-fn are_said(
+pub fn are_said(
     rt: &(impl Abort + AllocGlobal),
     rows: &[(&str, &str, &str, &str)],
 ) -> Result<(), Fail> {
@@ -47,7 +47,7 @@ fn are_said(
 }
 
 /// One original and its converted record, by the map of the report line and the verdict.
-fn maps_are_said(
+pub fn maps_are_said(
     rt: &(impl Abort + AllocGlobal),
     rows: &[(&str, &str, &str, &str)],
 ) -> Result<(), Fail> {

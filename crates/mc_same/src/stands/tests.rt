@@ -1,12 +1,13 @@
-ghost use Rattle.std.specs.Prelude.{◌<◌, ◌^◌, ◌-◌, length};
+ghost use Rattle.std.specs.Prelude.{ℕ, ◌<◌, ◌^◌, ◌-◌, IfOk, length};
+ghost use Rattle.smi_mean.specs.MeantCentres.{MarkFits};
 
 use super::check_stands;
 use crate::check::tests::{atom, join};
 use mc_base::{AtomId, BondId, Verdict};
 use mc_elements::Element;
 use mc_mol::Mol;
-use smi_graph::{Skeleton, read_skeleton};
-use smi_mean::{is_placement, molecule_with};
+use smi_graph::Skeleton;
+use smi_mean::{is_placement, molecule_with, read_named};
 use std::alloc::Global;
 use std::process::Abort;
 use std::test::Fail;
@@ -24,9 +25,20 @@ fn ring(alloc: Global, orders: [u8; 6]) -> Result<Mol, Fail> {
     Ok(mol)
 }
 
+/// The skeleton of a text that stands for a molecule.
+fn skeleton_of(alloc: Global, text: &[u8]) -> Result<Skeleton, Fail>
+    requires { length text.now < 2 ^ 32 - 1 }
+    ensures { IfOk result (λ skeleton. (k : ℕ) → k < length skeleton.atoms → MarkFits skeleton k) }
+{
+    match read_named(alloc, text) {
+        Ok(read) => Ok(read.skeleton),
+        Err(_) => Err("refused".into()),
+    }
+}
+
 /// The verdict on benzene in lower case and such a ring, under a map.
 fn verdict(alloc: Global, orders: [u8; 6], map: &[AtomId]) -> Result<Verdict, Fail> {
-    let input = read_skeleton(alloc, b"c1ccccc1").ok().ok_or("refused")?;
+    let input = skeleton_of(alloc, b"c1ccccc1")?;
     let output = ring(alloc, orders)?;
     Ok(check_stands(alloc, &input, &output, map)?)
 }
@@ -123,7 +135,9 @@ fn in_set(alloc: Global, bonds: u32, set: u64) -> Result<Vec<bool>, Fail> {
 }
 
 /// Whether the molecule of a text in which these bonds are double is one that the text stands for, by the checker.
-fn is_one_of(alloc: Global, text: &Skeleton, double: &[bool]) -> Result<bool, Fail> {
+fn is_one_of(alloc: Global, text: &Skeleton, double: &[bool]) -> Result<bool, Fail>
+    requires { (k : ℕ) → k < length text.now.atoms → MarkFits text.now k }
+{
     if double.len() != text.bonds().len() {
         return Ok(false);
     }
@@ -137,7 +151,7 @@ fn placements(rt: &(impl Abort + AllocGlobal), text: &[u8]) -> Result<u32, Fail>
     requires { length text.now < 2 ^ 32 - 1 }
 {
     let alloc = rt.alloc();
-    let skeleton = read_skeleton(alloc, text).ok().ok_or("refused")?;
+    let skeleton = skeleton_of(alloc, text)?;
     let bonds = skeleton.bond_count();
     let mut found = 0u32;
     for set in 0..bit(bonds) {

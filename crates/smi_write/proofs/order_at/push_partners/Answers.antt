@@ -1,8 +1,7 @@
 use Rattle.std.proofs.Common.{sym, ap, ◌∙◌, ◌++◌, [], ◌∷◌, List, ℕ, length, arith}
 use Rattle.std.specs.Prelude.{nat_lt, ◌&&◌}
 use Rattle.std.proofs.lemmas.List.{append-nil, append_assoc}
-use Rattle.smi_mean.specs.Order.{graph_of}
-use Rattle.smi_mean.specs.Written.{has_ring}
+use Rattle.smi_mean.specs.Order.{graph_of, has_ring}
 use Rattle.smi_write.specs.Opening.{later_partners}
 use Rattle.smi_write.proofs.Partners.{above_less, below_count_less, first_passes, none_passes}
 use Rattle.smi_write.proofs.order_at.push_partners.Goals as goal

@@ -1,7 +1,6 @@
 use Rattle.std.proofs.Common.{◌≡◌, ◌++◌, drop, map}
 use Rattle.smi_mean.specs.CentrePlaces.{atom_slot}
-use Rattle.smi_mean.specs.Order.{graph_of}
-use Rattle.smi_mean.specs.Written.{at}
+use Rattle.smi_mean.specs.Order.{graph_of, at}
 use Rattle.smi_write.proofs.written_places.push_atoms.Given as goal
 
 abbrev pub invariant-loop-rank : goal.invariant-loop-rank
