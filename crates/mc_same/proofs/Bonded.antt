@@ -1,11 +1,11 @@
 -- An atom has a bond where it has half-edges.
-use Rattle.std.proofs.Common.{◌≡◌, ◌∙◌, ℕ, ◌+◌, ◌<◌, List, [], ◌∷◌, length, reverse, Bool, true, false, refl, ap, sym, arith}
+use Rattle.std.proofs.Common.{◌≡◌, ◌∙◌, ℕ, ◌+◌, List, [], ◌∷◌, length, reverse, Bool, true, false, refl, ap, sym, arith}
 use Rattle.std.specs.List.{list_any}
 use Rattle.std.specs.Prelude.{nat_lt, ◌||◌, if◌then◌else◌}
 use Rattle.std.proofs.lemmas.Bool.Decides.{nat_tests}
 use Rattle.mc_mol.specs.declared.parts.Bond.{Bond}
 use Rattle.mc_mol.specs.Molecule.{Molecule, touches}
-use Rattle.mc_mol.specs.HalfEdges.{half_edges, half_edges_by, degree}
+use Rattle.mc_mol.specs.HalfEdges.{half_edges, degree}
 use Rattle.mc_mol.proofs.Halves.{any_reverse, length-half_edges_by}
 use Rattle.mc_same.specs.Stands.{has_bond}
 

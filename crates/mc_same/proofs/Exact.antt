@@ -1,26 +1,22 @@
 -- There is no difference exactly where some molecule of the text is the same as the one that is compared.
-use Rattle.std.proofs.Common.{arith, ◌≡◌, ◌≢◌, ◌∙◌, ◌↔◌, ◌⊎◌, ℕ, zero, suc, ◌+◌, ◌<◌, ◌≤◌, ◌==◌, List, [], ◌∷◌, length, map, get_or, slice_get, Bool, true, false, Some, refl, ap, sym, subst, inl, inr}
+use Rattle.std.proofs.Common.{arith, ◌≡◌, ◌∙◌, ◌⊎◌, ℕ, zero, suc, ◌+◌, ◌<◌, ◌≤◌, ◌==◌, List, [], ◌∷◌, length, map, slice_get, Bool, true, false, Some, refl, ap, sym, subst, inl, inr}
 use Rattle.std.specs.List.{list_any}
 use Rattle.std.specs.Prelude.{◌&&◌, ◌||◌, if◌then◌else◌}
-use Rattle.std.proofs.lemmas.Bool.{cases_Bool, cases_lt, false≢true, false_from_ne_true, and_parts, and_from, or_cases, or_left, or_right, eqb-true, eq-eqb}
-use Rattle.std.proofs.lemmas.Option.{slice_get-get_or, slice_get_within, same_Some}
+use Rattle.std.proofs.lemmas.Bool.{cases_Bool, cases_lt, false≢true, false_from_ne_true, and_parts, or_cases, or_left, or_right}
+use Rattle.std.proofs.lemmas.Option.{slice_get_within, same_Some}
 use Rattle.mc_base.specs.declared.ids.AtomId.{AtomId}
-use Rattle.mc_base.specs.declared.verdict.Verdict.{Verdict}
 use Rattle.mc_base.specs.declared.verdict.Verdict.TheVariants.{True}
 use Rattle.mc_mol.specs.declared.parts.Bond.{Bond as BondParts}
-use Rattle.mc_mol.specs.Molecule.{Molecule, joins, touches, are_joined}
-use Rattle.mc_mol.specs.Same.{Same, HasBond, entry}
-use Rattle.mc_mol.specs.WellFormed.{IsBond, IsMolecule}
-use Rattle.mc_mol.proofs.Apart.{joins_cases, joins_from, one_bond, touches_cases, touches_first, touches_second}
-use Rattle.mc_mol.proofs.Neighbours.{joined_at, joined_ends, bond_joined}
-use Rattle.match_barrier.proofs.Edges.{same_bools}
-use Rattle.smi_graph.specs.declared.skel_atom.SkelAtom.{SkelAtom}
-use Rattle.smi_graph.specs.declared.text_bond.TextBond.{TextBond}
-use Rattle.smi_graph.specs.Candidates.{marked, is_unmarked_or_aromatic, joins_lower, AreCandidates}
-use Rattle.smi_graph.specs.Links.{bond_of, symbol, order_of}
+use Rattle.mc_mol.specs.Molecule.{Molecule, joins, touches}
+use Rattle.mc_mol.specs.Same.{entry}
+use Rattle.mc_mol.specs.WellFormed.{IsMolecule}
+use Rattle.mc_mol.proofs.Apart.{joins_cases, touches_cases, touches_first, touches_second}
+use Rattle.mc_mol.proofs.Neighbours.{joined_ends, bond_joined}
+use Rattle.smi_graph.specs.Candidates.{marked}
+use Rattle.smi_graph.specs.Links.{bond_of}
 use Rattle.smi_graph.specs.Skeletons.{TextGraph, IsTextGraph}
 use Rattle.smi_mean.specs.Needs.{needs}
-use Rattle.smi_mean.specs.Meant.{IsUnder, molecule_under}
+use Rattle.smi_mean.specs.Meant.{molecule_under}
 use Rattle.smi_mean.specs.Placements.{placed_at, LiesOnce, IsPlacement, raised_bond, raised}
 use Rattle.smi_mean.proofs.MeantAtoms.{length_atoms}
 use Rattle.smi_mean.specs.Barriers.{needs_of}
@@ -28,13 +24,10 @@ use Rattle.smi_mean.specs.Lying.{lying_of}
 use Rattle.smi_mean.proofs.OnceEach.{lies_where_marked}
 use Rattle.smi_mean.proofs.PlacedBonds.{bond_at, bonds_count, needs_of_is}
 use Rattle.smi_mean.proofs.PlacementTest.{placement_by}
-use Rattle.smi_mean.proofs.Placing.{length_raised, raised_sound}
-use Rattle.smi_mean.proofs.Raised.{candidate_order}
-use Rattle.mc_same.specs.Differences.{SameMap, CentreAgrees, SidesAgree, Holds}
-use Rattle.mc_same.specs.Stands.{is_double, doubles_from, doubles, has_bond, AtomFits, BondFits, FitsGraph, IsStandsVerdict, IsSomeMolecule}
+use Rattle.mc_same.specs.Differences.{SameMap}
+use Rattle.mc_same.specs.Stands.{is_double, doubles_from, doubles, has_bond, FitsGraph, IsStandsVerdict, IsSomeMolecule}
 use Rattle.mc_same.proofs.Fitting.{fits_same}
 use Rattle.mc_same.proofs.Onto.{onto}
-use Rattle.mc_same.proofs.OneVerdict.{stands_once}
 use Rattle.mc_same.proofs.Verdicts.{same_at_last}
 
 -- ---- lists of bonds

@@ -9,14 +9,13 @@ use Rattle.mc_base.specs.declared.verdict.Verdict.TheVariants.{True, Length, Ran
 use Rattle.mc_mol.specs.declared.parts.Bond.{Bond as BondParts}
 use Rattle.mc_mol.specs.Molecule.{Molecule}
 use Rattle.mc_mol.specs.Same.{HasBond, entry}
-use Rattle.smi_graph.specs.declared.skel_atom.SkelAtom.{SkelAtom}
 use Rattle.smi_mean.specs.Meant.{molecule_under}
 use Rattle.smi_mean.proofs.MeantAtoms.{length_atoms}
 use Rattle.smi_graph.specs.Candidates.{marked}
 use Rattle.smi_graph.specs.Links.{bond_of}
 use Rattle.smi_graph.specs.Skeletons.{TextGraph}
-use Rattle.mc_same.specs.Differences.{FailsFirst, IsVerdict, SameMap, SameAtom, SameBond, SameGraph, InRange, IsNew, Holds}
-use Rattle.mc_same.specs.Stands.{AtomFits, BondFits, FitsGraph, IsFitVerdict, IsStandsVerdict}
+use Rattle.mc_same.specs.Differences.{FailsFirst, IsVerdict, SameAtom, SameBond, SameGraph, InRange, IsNew, Holds}
+use Rattle.mc_same.specs.Stands.{BondFits, FitsGraph, IsFitVerdict, IsStandsVerdict}
 use Rattle.mc_same.proofs.OneDifference.{not_held}
 
 atom_cases : (same needing bonded : Bool) (A : Type 0) → (IsTrue same ↔ A) → IsTrue (same && (not needing || bonded)) ↔ (A × (needing ≡ true → bonded ≡ true))

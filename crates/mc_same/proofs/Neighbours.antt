@@ -1,10 +1,9 @@
 -- The neighbours of an atom are atoms of its molecule.
-use Rattle.std.proofs.Common.{arith, ◌≡◌, ◌≢◌, ◌∙◌, ◌<◌, ◌||◌, ℕ, Bool, true, false, List, [], ◌∷◌, length, slice_get, Option, Some, None, All, Contains, refl, sym, inl, inr}
-use Rattle.mc_mol.specs.declared.parts.Bond.{Bond}
+use Rattle.std.proofs.Common.{arith, ◌≡◌, ℕ, List, length, slice_get, Option, Some, None, Contains}
 use Rattle.mc_mol.specs.declared.parts.Slot.{Slot}
 use Rattle.mc_mol.specs.declared.parts.Slot.TheVariants.{At, Rest}
-use Rattle.mc_mol.specs.Molecule.{Molecule, joins, are_joined}
-use Rattle.mc_mol.specs.WellFormed.{IsMolecule, IsBond}
+use Rattle.mc_mol.specs.Molecule.{Molecule}
+use Rattle.mc_mol.specs.WellFormed.{IsMolecule}
 use Rattle.mc_same.specs.Carried.{HasEntry, HaveEntries}
 use Rattle.mc_mol.proofs.Neighbours.{joined_ends}
 

@@ -1,5 +1,5 @@
 -- A function of the numbers below a bound into them that takes no value twice takes each.
-use Rattle.std.proofs.Common.{arith, ◌≡◌, ◌∙◌, ℕ, zero, suc, ◌<◌, ◌≤◌, ◌==◌, List, length, Bool, true, refl, ap, sym, inl, inr}
+use Rattle.std.proofs.Common.{arith, ◌≡◌, ◌∙◌, ℕ, zero, suc, ◌<◌, ◌≤◌, ◌==◌, length, Bool, true, refl, ap, sym, inl, inr}
 use Rattle.std.specs.Prelude.{if◌then◌else◌}
 use Rattle.std.proofs.lemmas.Bool.{cases_Bool, cases_eq, false≢true, eqb-true, eq-eqb, cond-true, cond-false}
 use Rattle.match_barrier.specs.Barrier.{count}

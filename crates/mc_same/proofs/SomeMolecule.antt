@@ -1,6 +1,6 @@
 -- Where some molecule of the text is the same as the one that is compared, there is no difference: its double bonds are those
 -- that it was placed with.
-use Rattle.std.proofs.Common.{arith, ◌≡◌, ◌∙◌, ◌↔◌, ℕ, ◌+◌, ◌<◌, ◌==◌, List, length, map, slice_get, Bool, true, false, Option, Some, refl, ap, sym, subst, inl, inr}
+use Rattle.std.proofs.Common.{arith, ◌≡◌, ◌∙◌, ◌↔◌, ℕ, ◌+◌, ◌<◌, ◌==◌, List, length, map, slice_get, Bool, true, false, Some, ap, sym, subst, inl, inr}
 use Rattle.std.specs.Prelude.{◌&&◌, AllPairs, if◌then◌else◌, option_map, Result, Ok, Err, IfOk}
 use Rattle.std.proofs.lemmas.Bool.{cases_Bool, and_parts, and_from, eqb-true, eq-eqb}
 use Rattle.std.proofs.lemmas.Option.{slice_get-map}

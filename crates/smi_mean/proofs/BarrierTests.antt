@@ -1,6 +1,6 @@
 -- A list of atoms is looked at once before its nodes are.
-use Rattle.std.proofs.Common.{◌≡◌, ◌∙◌, ℕ, zero, suc, ◌+◌, ◌≤◌, ◌<◌, List, [], ◌∷◌, length, map, Bool, true, false, refl, ap, sym, subst, inl, inr, arith}
-use Rattle.std.specs.Prelude.{All, ◌↔◌, IsTrue, Option, Some, None, IfSome, IfNone, ◌==◌, ◌&&◌, nat_le, slice_get}
+use Rattle.std.proofs.Common.{◌≡◌, ◌∙◌, ℕ, zero, suc, ◌+◌, ◌≤◌, ◌<◌, List, [], ◌∷◌, length, map, Bool, true, false, refl, ap, sym, subst, arith}
+use Rattle.std.specs.Prelude.{All, ◌↔◌, IsTrue, Option, Some, None, IfSome, IfNone, ◌==◌, nat_le}
 use Rattle.std.proofs.lemmas.Bool.{false≢true, and_parts, and_from, eqb-true, eq-eqb}
 use Rattle.std.proofs.lemmas.Bool.Decides.{nat_tests}
 use Rattle.mc_base.specs.declared.ids.AtomId.{AtomId}
@@ -14,7 +14,7 @@ use Rattle.smi_graph.specs.declared.text_bond.TextBond.{TextBond}
 use Rattle.smi_graph.specs.Candidates.{marked, AreCandidates}
 use Rattle.smi_graph.specs.Links.{bond_of}
 use Rattle.smi_graph.specs.Skeletons.{TextGraph, IsTextGraph}
-use Rattle.smi_mean.specs.Barriers.{Rises, graph_along, needless, marked_from, needs_of, marked_bonds, IsNeedBarrier, number_of, IsBarrierIn}
+use Rattle.smi_mean.specs.Barriers.{Rises, graph_along, marked_from, needs_of, marked_bonds, IsNeedBarrier, number_of, IsBarrierIn}
 use Rattle.smi_mean.specs.BarrierTests.{is_next, rises_among, is_found}
 use Rattle.smi_mean.specs.NeedGraphs.{node_of, IsNeedGraph}
 use Rattle.smi_mean.proofs.NeedBarriers.{needing_below, node_barrier, atoms_barrier, nodes_differ, nodes_below}

@@ -1,7 +1,7 @@
 -- A placement is found by looking at the bonds and atoms that are there.
 use Rattle.std.proofs.Common.{arith, ◌≡◌, ◌∙◌, ℕ, zero, suc, ◌+◌, ◌≤◌, ◌<◌, List, [], ◌∷◌, length, Bool, true, false, Option, Some, None, refl, ap, sym, inl, inr}
 use Rattle.std.specs.List.{All}
-use Rattle.std.specs.Prelude.{map, slice_get, ◌&&◌, ◌||◌, ◌==◌, if◌then◌else◌}
+use Rattle.std.specs.Prelude.{map, slice_get, ◌&&◌, ◌==◌, if◌then◌else◌}
 use Rattle.std.proofs.lemmas.Bool.{cases_lt, false≢true}
 use Rattle.std.proofs.lemmas.Bool.Decides.{nat_tests}
 use Rattle.std.proofs.lemmas.Option.{slice_get_past, slice_get_within}
@@ -13,7 +13,7 @@ use Rattle.smi_graph.specs.declared.text_bond.TextBond.{TextBond}
 use Rattle.smi_graph.specs.Candidates.{marked}
 use Rattle.smi_graph.specs.Links.{bond_of}
 use Rattle.smi_graph.specs.Skeletons.{TextGraph, IsTextGraph}
-use Rattle.smi_mean.specs.Needs.{needs, needs_in}
+use Rattle.smi_mean.specs.Needs.{needs_in}
 use Rattle.smi_mean.specs.Placements.{placed_at, LiesOnce, IsPlacement}
 
 other : (n a k : ℕ) → k < n → n ≤ a → (k == a) ≡ false

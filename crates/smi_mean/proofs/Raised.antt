@@ -1,13 +1,12 @@
 -- What placed double bonds change: bond sums by one for each, and no ring.
-use Rattle.std.proofs.Common.{arith, ◌≡◌, ◌∙◌, ℕ, zero, suc, ◌+◌, ◌<◌, List, [], ◌∷◌, length, get_or, map, Bool, true, false, Option, Some, None, refl, ap, sym}
+use Rattle.std.proofs.Common.{arith, ◌≡◌, ◌∙◌, ℕ, zero, suc, ◌+◌, List, [], ◌∷◌, map, Bool, true, false, Option, Some, None, refl, ap}
 use Rattle.std.specs.Prelude.{slice_get, not, ◌&&◌, ◌||◌, if◌then◌else◌}
 use Rattle.std.proofs.lemmas.Bool.{false≢true}
 use Rattle.std.proofs.lemmas.List.Sums.{sum_by-cons}
-use Rattle.mc_mol.specs.declared.parts.Atom.{Atom}
 use Rattle.mc_mol.specs.declared.parts.Bond as bond
 use Rattle.mc_mol.specs.Molecule.{bond_sum, touches}
 use Rattle.mc_mol.specs.Limits.{is_over, overvalent_at}
-use Rattle.mc_mol.specs.Parts.{are_connected, some_below, begins_part, count_below, part_count, independent_rings}
+use Rattle.mc_mol.specs.Parts.{are_connected, some_below, begins_part, part_count, independent_rings}
 use Rattle.mc_mol.proofs.Labelled.{count_same}
 use Rattle.smi_lex.specs.declared.token.BondMark.{BondMark}
 use Rattle.smi_lex.specs.declared.token.BondMark.TheVariants.{Single, Double, Triple, Quadruple, Aromatic, Slash, Backslash}
@@ -15,8 +14,7 @@ use Rattle.smi_graph.specs.declared.skel_atom.SkelAtom.{SkelAtom}
 use Rattle.smi_graph.specs.declared.text_bond.TextBond.{TextBond}
 use Rattle.smi_graph.specs.Candidates.{marked, is_unmarked_or_aromatic, joins_lower}
 use Rattle.smi_graph.specs.Links.{bond_of, symbol, order_of}
-use Rattle.smi_mean.specs.Meaning.{atoms_with, meaning_of}
-use Rattle.smi_mean.specs.Needs.{needs}
+use Rattle.smi_mean.specs.Meaning.{atoms_with}
 use Rattle.smi_mean.specs.Placements.{placed_at, IsPlacement, raised_bond, raised, meaning_under}
 use Rattle.smi_mean.specs.Rules.{overvalent_in}
 use Rattle.smi_mean.proofs.Placing.{length_raised}

@@ -3,7 +3,7 @@
 use Rattle.std.specs.List.{list_any}
 use Rattle.std.specs.Prelude.{◌≡◌, ◌≢◌, ℕ, zero, suc, ◌+◌, ◌<◌, Bool, true, false, ◌&&◌, ◌||◌, ◌==◌, List, [], ◌∷◌, length, get_or, All, if◌then◌else◌}
 use Rattle.mc_mol.specs.declared.parts.Bond.{Bond}
-use Rattle.mc_mol.specs.Molecule.{are_joined, touches}
+use Rattle.mc_mol.specs.Molecule.{are_joined}
 use Rattle.match_barrier.specs.Graph.{has, adjacent, IsGraph}
 use Rattle.match_barrier.specs.Barrier.{one_if, count}
 use Rattle.smi_graph.specs.Candidates.{marked}

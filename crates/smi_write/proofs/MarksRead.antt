@@ -12,7 +12,7 @@ use Rattle.smi_graph.specs.declared.skel_atom.SkelAtom.{SkelAtom}
 use Rattle.smi_graph.specs.Roles.{atom_of, atoms_of}
 use Rattle.smi_mean.specs.CentrePlaces.{places, centre_of}
 use Rattle.smi_mean.specs.MeantCentres.{centres_with}
-use Rattle.smi_mean.specs.Written.{is_bare, token_in, token_of}
+use Rattle.smi_mean.specs.Written.{is_bare, token_of}
 use Rattle.smi_write.proofs.AtomsRead.{atom_tokens}
 
 -- The centre of a token

@@ -1,6 +1,6 @@
 -- No kind stands in a text that is read as a molecule within the limits.
 use Rattle.std.proofs.Common.{arith, ◌≡◌, ◌<◌, ◌≤◌, ◌+◌, ℕ, zero, suc, Bool, true, false, List, [], ◌∷◌, length, Option, Some, None, refl, sym, ap, ◌∙◌, inl, inr}
-use Rattle.std.specs.Prelude.{slice_get, nat_abs, is_some, not, option_map, reverse, ◌&&◌, ◌||◌}
+use Rattle.std.specs.Prelude.{slice_get, nat_abs, is_some, not, option_map, reverse, ◌||◌}
 use Rattle.std.proofs.lemmas.Bool.{and_parts, cases_lt, both_ways, false≢true, le-ltb, not-true}
 use Rattle.std.proofs.lemmas.Option.{slice_get_past, slice_get_within, slice_get-map}
 use Rattle.mc_base.specs.declared.kind.Kind.{Kind}

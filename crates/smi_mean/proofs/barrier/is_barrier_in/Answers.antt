@@ -1,4 +1,4 @@
-use Rattle.std.proofs.Common.{◌≡◌, ◌∙◌, List, Bool, ap, sym, map}
+use Rattle.std.proofs.Common.{◌≡◌, ◌∙◌, ap, sym, map}
 use Rattle.std.proofs.lemmas.Bool.{false≢true}
 use Rattle.smi_graph.specs.Links.{bond_of}
 use Rattle.smi_mean.specs.Barriers.{needs_of}

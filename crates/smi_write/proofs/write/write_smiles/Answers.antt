@@ -1,4 +1,3 @@
-use Rattle.std.proofs.Common.{◌∙◌}
 use Rattle.smi_write.proofs.FourPlaces.{centres_fit}
 use Rattle.smi_write.proofs.WholeTrip.{read_back}
 use Rattle.smi_write.proofs.NoBlanks.{no_blanks}
