@@ -1,6 +1,6 @@
 -- A mark is wrong in a molecule of a skeleton, whichever of its bonds are placed, exactly where the kind NotACentre stands in
 -- the text.
-use Rattle.std.proofs.Common.{arith, ◌≡◌, ◌∙◌, ℕ, zero, suc, ◌+◌, ◌≤◌, ◌<◌, List, [], ◌∷◌, length, map, Bool, true, false, Option, Some, None, refl, ap, sym, subst, inl, inr}
+use Rattle.std.proofs.Common.{arith, ◌≡◌, ◌∙◌, ℕ, zero, suc, ◌+◌, ◌≤◌, List, [], ◌∷◌, length, map, Bool, true, false, Option, Some, None, refl, ap, sym, subst, inl, inr}
 use Rattle.std.specs.Prelude.{All, ◌⊎◌, not, ◌&&◌, ◌||◌, is_some, slice_get}
 use Rattle.std.proofs.lemmas.Bool.{cases_lt, false≢true}
 use Rattle.std.proofs.lemmas.List.{length-map}
@@ -32,6 +32,7 @@ use Rattle.smi_mean.proofs.CentreLists.{joined_raised}
 use Rattle.smi_mean.proofs.CentreTests.{Ends, count_same, ends, may_be_under}
 use Rattle.smi_mean.proofs.MeantAtoms.{length_atoms}
 use Rattle.smi_mean.proofs.Placing.{length_raised}
+use Rattle.smi_mean.proofs.PlacedBonds.{bond_at}
 
 -- Ring sizes don't depend on orders
 
@@ -87,20 +88,15 @@ lies_same bonds b None (Some n) x y = absurd (x y.path y.ring)
 lies_same bonds b (Some n) None x y = absurd (y x.path x.ring)
 lies_same bonds b (Some n) (Some k) x y = refl
 
-some_at : {A : Type 0} (xs : List A) (k : ℕ) → k < length xs → (x : A) × (slice_get xs k ≡ Some x)
-some_at [] k less = absurd (omega arith)
-some_at (x ∷ xs) zero less = (x, refl)
-some_at (x ∷ xs) (suc k) less = some_at xs k (omega arith)
-
 free_same : (m : Molecule) (s t : List (Option ℕ)) → AreSizes m s → AreSizes m t → (k : ℕ) → lies_in_no_ring s k ≡ lies_in_no_ring t k
 free_same m s t x y k =
     let left = x.count in
     let right = y.count in
     elim (cases_lt k (length m.bonds)) [
       | inl less ↦
-          let b = some_at m.bonds k less in
-          let p = some_at s k (omega arith) in
-          let q = some_at t k (omega arith) in
+          let b = bond_at m.bonds k less in
+          let p = bond_at s k (omega arith) in
+          let q = bond_at t k (omega arith) in
           ap size_is_none p.1 ∙ lies_same m.bonds b.0 p.0 q.0 (x.each k p.0 p.1 b.0 b.1) (y.each k q.0 q.1 b.0 b.1) ∙ sym (ap size_is_none q.1)
       | inr past ↦ ap size_is_none (slice_get_past s k (omega arith)) ∙ sym (ap size_is_none (slice_get_past t k (omega arith)))
     ]
